@@ -1,0 +1,4 @@
+pub mod Fault
+pub mod Left
+pub mod Run
+pub mod Key
