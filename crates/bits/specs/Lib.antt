@@ -1,0 +1,4 @@
+pub mod Digits
+pub mod Nibbles
+pub mod Circuit
+pub mod Moves
