@@ -1,0 +1,6 @@
+mod LayerBits
+mod SBoxes
+mod Permutation
+mod Register
+mod Rounds
+mod Bytes

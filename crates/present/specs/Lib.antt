@@ -1,0 +1,5 @@
+pub mod Present
+pub mod Block
+pub mod Vectors
+pub mod SBoxCircuit
+pub mod RoundKeys
