@@ -1,0 +1,5 @@
+pub mod Field
+pub mod Sbox
+pub mod Fips197
+pub mod Tables
+pub mod Vectors

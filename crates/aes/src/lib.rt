@@ -1,0 +1,4 @@
+pub mod cipher;
+mod rounds;
+mod schedule;
+pub mod tables;
