@@ -1,0 +1,5 @@
+pub mod cipher;
+mod columns;
+mod rounds;
+mod subkeys;
+mod tables;
