@@ -1,0 +1,3 @@
+pub mod Twine
+pub mod Split
+pub mod Vectors
