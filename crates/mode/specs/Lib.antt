@@ -1,0 +1,11 @@
+pub mod Fault
+pub mod Set
+pub mod Recommended
+pub mod Columns
+pub mod Meaning
+pub mod Causes
+pub mod Limits
+pub mod Work
+pub mod Counting
+pub mod Sealing
+pub mod Opening
