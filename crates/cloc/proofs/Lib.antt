@@ -1,0 +1,3 @@
+mod Forms
+mod Sizes
+mod Undoing

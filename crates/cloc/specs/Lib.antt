@@ -1,0 +1,2 @@
+pub mod Cloc
+pub mod Examples
