@@ -1,0 +1,2 @@
+pub mod Silc
+pub mod Examples
