@@ -1,0 +1,3 @@
+// A cipher or a mode that is chosen when the program runs.
+pub mod ciphers;
+pub mod modes;
