@@ -1,0 +1,4 @@
+pub mod Marks
+pub mod History
+pub mod Calls
+pub mod Vectors
