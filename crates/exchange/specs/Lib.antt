@@ -1,0 +1,4 @@
+pub mod Sends
+pub mod Receives
+pub mod Leads
+pub mod Exchanged
