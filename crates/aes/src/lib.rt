@@ -1,3 +1,5 @@
+#![tactic(auto)]
+
 pub mod cipher;
 mod rounds;
 mod schedule;

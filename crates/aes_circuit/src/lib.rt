@@ -1,4 +1,7 @@
 // AES-128: no table indexed by a secret and no branch on one, neither in a run nor in the key expansion.
+
+#![tactic(auto)]
+
 pub mod cipher;
 mod circuit;
 mod planes;

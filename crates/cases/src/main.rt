@@ -1,4 +1,7 @@
 // Runs cases: each line of standard input is one, and is written again with everything computed anew from its inputs.
+
+#![tactic(auto)]
+
 mod answer;
 mod cipher_case;
 mod input;

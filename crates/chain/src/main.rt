@@ -6,6 +6,9 @@
 // block is printed. Or it is a mode over AES-128: CLOC-long and SILC-long seal 64 KiB with no label for as many cipher blocks of contents
 // as COUNT says, CLOC-short and SILC-short seal 16 bytes under a label of 16; the last tag is printed. How long each took goes to standard
 // error, by block, or by cipher run.
+
+#![tactic(auto)]
+
 mod seals;
 
 use aes::cipher::Aes128;

@@ -1,4 +1,7 @@
 // CLOC, version 3: authenticated encryption over any block cipher.
+
+#![tactic(auto)]
+
 pub mod cloc;
 mod count;
 mod message;

@@ -1,4 +1,7 @@
 // LED-80: no table indexed by a secret and no branch on one, neither in a run nor in the making of the subkeys.
+
+#![tactic(auto)]
+
 pub mod cipher;
 mod constants;
 mod layers;

@@ -1,4 +1,7 @@
 // PRESENT-80: no table indexed by a secret and no branch on one, neither in a run nor in the key schedule.
+
+#![tactic(auto)]
+
 pub mod cipher;
 mod layers;
 mod schedule;

@@ -1,5 +1,8 @@
 // Shows what the library does: the published vectors of the four ciphers, one message under each of the five recommended parameter sets,
 // and then the sample task: a revision of a drawing, cut into tubes, carried over a bad route, and put together again.
+
+#![tactic(auto)]
+
 mod cutting;
 mod joining;
 mod messages;

@@ -1,4 +1,7 @@
 // SILC, version 3, over any cipher.
+
+#![tactic(auto)]
+
 mod counts;
 pub mod silc;
 mod subroutines;

@@ -1,4 +1,7 @@
 // Tests over several crates. It has no code of its own.
+
+#![tactic(auto)]
+
 #[cfg(test)]
 mod clocs;
 #[cfg(test)]

@@ -1,4 +1,7 @@
 // TWINE-80, a lightweight block cipher of 64-bit blocks and 80-bit keys.
+
+#![tactic(auto)]
+
 pub mod cipher;
 mod round;
 mod schedule;

@@ -1,5 +1,8 @@
 // TWINE-80, a lightweight block cipher of 64-bit blocks and 80-bit keys: no table indexed by a secret and no branch on one, neither in a
 // run nor in the key schedule.
+
+#![tactic(auto)]
+
 pub mod cipher;
 mod halves;
 mod lanes;

@@ -1,4 +1,7 @@
 // A table of values worked by hand, proved of the library's definitions.
+
+#![tactic(auto)]
+
 ghost use Rattle.std.specs.Prelude.{◌≡◌};
 ghost use Rattle.worked.specs.Table.{Worked};
 
