@@ -15,14 +15,14 @@ import sys
 PUBLISHED = {"addRoundKey", "sBoxLayer", "pLayer"}
 # Names that would fall together with another, and what they are called instead: by the folder in which it is so.
 APART = {
-    "crates/bits/": {"bit-and": "bit_of_and", "bit-or": "bit_of_or", "bit-xor": "bit_of_xor"},
+    "crates/": {"bit-and": "bit_of_and", "bit-or": "bit_of_or", "bit-xor": "bit_of_xor"},
     "crates/ledger/": {"is_open": "open_by_test"},
     "crates/present/": {"round-key": "round_key_of"},
     "crates/aes_circuit/": {"in-plane": "in_plane_at"},
 }
 WORD = r"[^\s(){}\[\];,.:\"`«»|]+"
 TOKEN = re.compile(r"(?<![^\s(){}\[\];,.:\"`«»|])(" + WORD + r")(?![^\s(){}\[\];,.:\"`«»|])")
-SIGNATURE = re.compile(r"^(\s*)(?:(?:abbrev|unfoldable|pub)\s+)*(" + WORD + r")((?:\s+[({][^:]*:[^)}]*[)}])*)\s+:\s+(\S+)")
+SIGNATURE = re.compile(r"^(\s*)(?:(?:abbrev|unfoldable|pub)\s+)*(" + WORD + r")((?:\s+[({][^:]*:[^)}]*[)}])*)\s+:(?:\s+(\S+)|\s*$)")
 IMPORT = re.compile(r"^\s*(?:ghost\s+)?(?:pub\s+)?use\s+([\w.'+-]+)\.\{([^}]*)\}", re.M)
 
 
@@ -49,7 +49,7 @@ def files():
 def defined(text):
     for line in text.splitlines():
         m = SIGNATURE.match(line)
-        if m and not m.group(4).startswith("goal.") and m.group(2) not in ("use", "let", "in", "--"):
+        if m and not (m.group(4) or "").startswith("goal.") and m.group(2) not in ("use", "let", "in", "--"):
             yield m.group(2)
 
 

@@ -38,10 +38,10 @@ byte_xor : (x y k : ℕ) → (x ⊕ y) / 2 ^ k % 256 ≡ (x / 2 ^ k % 256) ⊕ (
 byte_xor x y k = ap (λ t. t % 256) (xor_shr x y k) ∙ xor_mod (x / 2 ^ k) (y / 2 ^ k) 8
 
 -- the same of five words, the bytes of four of which are known
-byte-xor-five :
+byte_xor_five :
     (x y z u v k : ℕ) {a b c d : ℕ} → x / 2 ^ k % 256 ≡ a → y / 2 ^ k % 256 ≡ b → z / 2 ^ k % 256 ≡ c → u / 2 ^ k % 256 ≡ d →
     (x ⊕ y ⊕ z ⊕ u ⊕ v) / 2 ^ k % 256 ≡ a ⊕ b ⊕ c ⊕ d ⊕ (v / 2 ^ k % 256)
-byte-xor-five x y z u v k ha hb hc hd =
+byte_xor_five x y z u v k ha hb hc hd =
     let e = byte_xor x y k in let f = byte_xor (x ⊕ y) z k in let g = byte_xor (x ⊕ y ⊕ z) u k in let h = byte_xor (x ⊕ y ⊕ z ⊕ u) v k in cc
 
 -- a word has these four bytes
@@ -72,10 +72,10 @@ table_bytes p q u v k =
     let Q = pack_bytes (0x03 • S q) (0x02 • S q) (S q) (S q) (triple_le q) (double_le q) (S_le q) (S_le q) in
     let U = pack_bytes (S u) (0x03 • S u) (0x02 • S u) (S u) (S_le u) (triple_le u) (double_le u) (S_le u) in
     let V = pack_bytes (S v) (S v) (0x03 • S v) (0x02 • S v) (S_le v) (S_le v) (triple_le v) (double_le v) in (
-      byte-xor-five (te0 p) (te1 q) (te2 u) (te3 v) k 24 P.0 Q.0 U.0 V.0,
-      byte-xor-five (te0 p) (te1 q) (te2 u) (te3 v) k 16 P.1 Q.1 U.1 V.1,
-      byte-xor-five (te0 p) (te1 q) (te2 u) (te3 v) k 8 P.2 Q.2 U.2 V.2,
-      byte-xor-five (te0 p) (te1 q) (te2 u) (te3 v) k 0 P.3 Q.3 U.3 V.3,
+      byte_xor_five (te0 p) (te1 q) (te2 u) (te3 v) k 24 P.0 Q.0 U.0 V.0,
+      byte_xor_five (te0 p) (te1 q) (te2 u) (te3 v) k 16 P.1 Q.1 U.1 V.1,
+      byte_xor_five (te0 p) (te1 q) (te2 u) (te3 v) k 8 P.2 Q.2 U.2 V.2,
+      byte_xor_five (te0 p) (te1 q) (te2 u) (te3 v) k 0 P.3 Q.3 U.3 V.3,
     )
 
 -- a column after a round, from the columns before it, and after the last round
@@ -110,11 +110,11 @@ round_is w n a b c d =
     (table_bytes (byte c 0) (byte d 1) (byte a 2) (byte b 3) (get_or w (4 * n + 2) 0))
     (table_bytes (byte d 0) (byte a 1) (byte b 2) (byte c 3) (get_or w (4 * n + 3) 0))
 
-pub last-is :
+pub last_is :
     (w : List ℕ) (a b c d : ℕ) →
     AddRoundKey w 10 (ShiftRows (SubBytes (state_of a b c d))) ≡
     state_of (last_column a b c d (get_or w 40 0)) (last_column b c d a (get_or w 41 0)) (last_column c d a b (get_or w 42 0)) (last_column d a b c (get_or w 43 0))
-last-is w a b c d =
+last_is w a b c d =
     let sub : (p q u v k : ℕ) → Bytes (pack (S p) (S q) (S u) (S v) ⊕ k) (S p ⊕ byte k 0) (S q ⊕ byte k 1) (S u ⊕ byte k 2) (S v ⊕ byte k 3)
     = λ p q u v k. added_bytes (S p) (S q) (S u) (S v) k (S_le p) (S_le q) (S_le u) (S_le v) in
     gathered _ _ _ _ (sub (byte a 0) (byte b 1) (byte c 2) (byte d 3) (get_or w 40 0)) (sub (byte b 0) (byte c 1) (byte d 2) (byte a 3) (get_or w 41 0))

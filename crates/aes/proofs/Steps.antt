@@ -4,7 +4,7 @@ use Rattle.std.proofs.lemmas.List.FromFn.{fill_by_all}
 use Rattle.std.proofs.lemmas.List.{take_more_set, get_or-take, length-take-le}
 use Rattle.aes.specs.Field.{◌⊕◌}
 use Rattle.aes.specs.Fips197.{state_of, aes128, Cipher, KeyExpansion, rounds, AddRoundKey, MixColumns, ShiftRows, SubBytes, words, next, temp, key_word}
-use Rattle.aes.proofs.Columns.{mixed_column, last_column, start_is, round_is, last-is}
+use Rattle.aes.proofs.Columns.{mixed_column, last_column, start_is, round_is, last_is}
 
 -- the key's own words, and one word more
 pub words_none : (key w : List ℕ) → length w ≡ 44 → ((j : ℕ) → j < 4 → get_or w j 0 ≡ key_word key j) → take 4 w ≡ words key 0
@@ -40,11 +40,11 @@ unfolding rounds
 start_step w s small = start_is w s small
 
 module _ (w s : List ℕ) (i a b c d : ℕ) (inv : rounds w s i ≡ state_of a b c d) where
-  pub round-step :
+  pub round_step :
       rounds w s (i + 1) ≡
       state_of (mixed_column a b c d (get_or w (4 * i + 4) 0)) (mixed_column b c d a (get_or w (4 * i + 4 + 1) 0))
       (mixed_column c d a b (get_or w (4 * i + 4 + 2) 0)) (mixed_column d a b c (get_or w (4 * i + 4 + 3) 0))
-  round-step =
+  round_step =
       let k0 : 4 * i + 4 ≡ 4 * (i + 1) + 0 = omega arith in
       let k1 : 4 * i + 4 + 1 ≡ 4 * (i + 1) + 1 = omega arith in
       let k2 : 4 * i + 4 + 2 ≡ 4 * (i + 1) + 2 = omega arith in
@@ -59,4 +59,4 @@ module _ (w s : List ℕ) (i a b c d : ℕ) (inv : rounds w s i ≡ state_of a b
       state_of (last_column a b c d (get_or w 40 0)) (last_column b c d a (get_or w 41 0)) (last_column c d a b (get_or w 42 0)) (last_column d a b c (get_or w 43 0))
   unfolding aes128 Cipher
   last_step key k n =
-      ap (λ v. Cipher v s) (sym k) ∙ ap (λ t. AddRoundKey w 10 (ShiftRows (SubBytes t))) (ap (rounds w s) (sym n) ∙ inv) ∙ last-is w a b c d
+      ap (λ v. Cipher v s) (sym k) ∙ ap (λ t. AddRoundKey w 10 (ShiftRows (SubBytes t))) (ap (rounds w s) (sym n) ∙ inv) ∙ last_is w a b c d

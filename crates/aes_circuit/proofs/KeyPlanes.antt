@@ -33,9 +33,9 @@ module _ (w keys : List ℕ) (j e o : ℕ) (len : length keys ≡ 22) (high : j 
       ap₂ bytes_of (get_or-set_other once (2 * j + 1) (2 * i) o 0 a ∙ get_or-set_other keys (2 * j) (2 * i) e 0 b)
       (get_or-set_other once (2 * j + 1) (2 * i + 1) o 0 c ∙ get_or-set_other keys (2 * j) (2 * i + 1) e 0 d)
 
-  pub more-keys :
+  pub more_keys :
       ((i : ℕ) → i < j → bytes_of (get_or keys (2 * i) 0) (get_or keys (2 * i + 1) 0) ≡ round_key w i) → bytes_of e o ≡ round_key w j →
       (i : ℕ) → i < j + 1 → bytes_of (get_or (set (set keys (2 * j) e) (2 * j + 1) o) (2 * i) 0) (get_or (set (set keys (2 * j) e) (2 * j + 1) o) (2 * i + 1) 0) ≡ round_key w i
   unfolding once both
-  more-keys before is =
+  more_keys before is =
       below_more (λ i. bytes_of (get_or both (2 * i) 0) (get_or both (2 * i + 1) 0) ≡ round_key w i) j (λ i h. there i h ∙ before i h) (here ∙ is)

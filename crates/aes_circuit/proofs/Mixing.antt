@@ -5,7 +5,7 @@ use lib.Bits.{bit_xor, bit_or, xor_lt, xor_assoc, xor_comm, xor_zero_r, or_zero_
 use Rattle.bits.specs.Digits.{bit}
 use Rattle.bits.specs.BytePlanes.{eight, byte_of, lane}
 use Rattle.bits.proofs.Everywhere.{everywhere}
-use Rattle.bits.proofs.Ext.{bit_lt, bit_xor, bit_or, bit_mod, bit_shr, bit_shl_low, bit_shl_high}
+use Rattle.bits.proofs.Ext.{bit_lt, bit_of_xor, bit_of_or, bit_mod, bit_shr, bit_shl_low, bit_shl_high}
 use Rattle.bits.proofs.BytePlanes.{bits_of_byte, byte_lt, byte_xor}
 use Rattle.bits.proofs.Listed.{eight_eq, sixteen_eq}
 use Rattle.aes.specs.Field.{◌⊕◌, ◌•◌, x_times, times}
@@ -62,12 +62,12 @@ module _ (e o i : ℕ) (small : o < 2 ^ 64) (h : i < 16) where
   E_bit : (k : ℕ) {a b c d : ℕ} → bit L (k + i) ≡ a → bit hi (k + i) ≡ b → bit (hi * 2 ^ 32 % 2 ^ 64) (k + i) ≡ c → bit_or a b ⊕ c ≡ d → bit (E / 2 ^ k) i ≡ d
   unfolding E
   E_bit k p q r t =
-      bit_shr E k i ∙ bit_xor (bit_or L hi) (hi * 2 ^ 32 % 2 ^ 64) (k + i) ∙ ap₂ bit_xor (bit_or L hi (k + i) ∙ ap₂ bit_or p q) r ∙ t
+      bit_shr E k i ∙ bit_of_xor (bit_or L hi) (hi * 2 ^ 32 % 2 ^ 64) (k + i) ∙ ap₂ bit_xor (bit_of_or L hi (k + i) ∙ ap₂ bit_or p q) r ∙ t
 
   O_bit : (k : ℕ) {b c d : ℕ} → bit hi (k + i) ≡ b → bit (hi * 2 ^ 16 % 2 ^ 64) (k + i) ≡ c → bit (e / 2 ^ k) i ⊕ b ⊕ c ≡ d → bit (O / 2 ^ k) i ≡ d
   unfolding O
   O_bit k q r t =
-      bit_shr O k i ∙ bit_xor (bit_xor e hi) (hi * 2 ^ 16 % 2 ^ 64) (k + i) ∙ ap₂ bit_xor (bit_xor e hi (k + i) ∙ ap₂ bit_xor (sym (bit_shr e k i)) q) r ∙ t
+      bit_shr O k i ∙ bit_of_xor (bit_xor e hi) (hi * 2 ^ 16 % 2 ^ 64) (k + i) ∙ ap₂ bit_xor (bit_of_xor e hi (k + i) ∙ ap₂ bit_xor (sym (bit_shr e k i)) q) r ∙ t
 
   nothing : (a b c : ℕ) → b ≡ 0 → c ≡ 0 → a ⊕ b ⊕ c ≡ a
   nothing a b c p q = none (a ⊕ b) c q ∙ none a b p
@@ -75,9 +75,9 @@ module _ (e o i : ℕ) (small : o < 2 ^ 64) (h : i < 16) where
   E_planes : (bit E i ≡ v 7) × (bit (E / 2 ^ 16) i ≡ v 1) × (bit (E / 2 ^ 32) i ≡ v 3 ⊕ v 7) × (bit (E / 2 ^ 48) i ≡ v 5)
   unfolding E L hi v
   E_planes = (
-    bit_xor (bit_or L hi) (hi * 2 ^ 32 % 2 ^ 64) i
+    bit_of_xor (bit_or L hi) (hi * 2 ^ 32 % 2 ^ 64) i
         ∙ none (bit (bit_or L hi) i) (bit (hi * 2 ^ 32 % 2 ^ 64) i) (shl_none hi 32 i (omega arith) (omega arith))
-        ∙ bit_or L hi i ∙ ap (λ x. bit_or x (bit hi i)) (shl_none o 16 i (omega arith) (omega arith)),
+        ∙ bit_of_or L hi i ∙ ap (λ x. bit_or x (bit hi i)) (shl_none o 16 i (omega arith) (omega arith)),
     E_bit 16 (shl_from o 16 (16 + i) i (omega arith) refl) (above (16 + i) (omega arith)) (shl_none hi 32 (16 + i) (omega arith) (omega arith))
         (xor_zero_r (bit_or (bit o i) 0) ∙ or_zero_r (bit o i)),
     E_bit 32 (shl_from o 16 (32 + i) (16 + i) (omega arith) (omega arith) ∙ sym (bit_shr o 16 i)) (above (32 + i) (omega arith)) (shl_from hi 32 (32 + i) i (omega arith) refl)
@@ -89,8 +89,8 @@ module _ (e o i : ℕ) (small : o < 2 ^ 64) (h : i < 16) where
   O_planes : (bit O i ≡ v 0 ⊕ v 7) × (bit (O / 2 ^ 16) i ≡ v 2 ⊕ v 7) × (bit (O / 2 ^ 32) i ≡ v 4) × (bit (O / 2 ^ 48) i ≡ v 6)
   unfolding O hi v
   O_planes = (
-    bit_xor (bit_xor e hi) (hi * 2 ^ 16 % 2 ^ 64) i
-        ∙ none (bit (bit_xor e hi) i) (bit (hi * 2 ^ 16 % 2 ^ 64) i) (shl_none hi 16 i (omega arith) (omega arith)) ∙ bit_xor e hi i,
+    bit_of_xor (bit_xor e hi) (hi * 2 ^ 16 % 2 ^ 64) i
+        ∙ none (bit (bit_xor e hi) i) (bit (hi * 2 ^ 16 % 2 ^ 64) i) (shl_none hi 16 i (omega arith) (omega arith)) ∙ bit_of_xor e hi i,
     O_bit 16 (above (16 + i) (omega arith)) (shl_from hi 16 (16 + i) i (omega arith) refl) (ap (λ x. bit_xor x (bit hi i)) (xor_zero_r (bit (e / 2 ^ 16) i))),
     O_bit 32 (above (32 + i) (omega arith)) (shl_from hi 16 (32 + i) (16 + i) (omega arith) (omega arith) ∙ above (16 + i) (omega arith)) (nothing (bit (e / 2 ^ 32) i) 0 0 refl refl),
     O_bit 48 (above (48 + i) (omega arith)) (shl_from hi 16 (48 + i) (32 + i) (omega arith) (omega arith) ∙ above (32 + i) (omega arith)) (nothing (bit (e / 2 ^ 48) i) 0 0 refl refl),
@@ -120,7 +120,7 @@ doubled_lt x (suc (suc (suc (suc (suc (suc (suc (suc j)))))))) = omega arith
 
 x_times_xor : (x y : ℕ) → x < 256 → y < 256 → x_times (x ⊕ y) ≡ x_times x ⊕ x_times y
 x_times_xor x y hx hy =
-    let at : (j : ℕ) → bit (x ⊕ y) j ≡ bit x j ⊕ bit y j = bit_xor x y in
+    let at : (j : ℕ) → bit (x ⊕ y) j ≡ bit x j ⊕ bit y j = bit_of_xor x y in
     let sum : (j : ℕ) → bit (x ⊕ y) j ⊕ bit (x ⊕ y) 7 ≡ (bit x j ⊕ bit x 7) ⊕ (bit y j ⊕ bit y 7) =
     λ j. ap₂ bit_xor (at j) (at 7) ∙ swap_inner (bit x j) (bit y j) (bit x 7) (bit y 7) in
     sym (double_is (x ⊕ y) (xor_lt 8 x y hx hy)) ∙ ap byte_of (eight_eq (at 7) (sum 0) (at 1) (sum 2) (sum 3) (at 4) (at 5) (at 6))
@@ -191,10 +191,10 @@ module _ (p q u v : ℕ) (hp : p < 256) (hq : q < 256) (hu : u < 256) (hv : v < 
       ap (bit_xor (p ⊕ (q ⊕ u))) (x_times_xor v p hv hp) ∙ sym (fourth p q u (x_times v) (x_times p))
       ∙ sym (ap₂ (λ x y. ((y ⊕ q) ⊕ u) ⊕ x) (twice v hv) (thrice p hp))
 
-pub mix-is :
+pub mix_is :
     (s : List ℕ) → ((i : ℕ) → get_or s i 0 < 256) →
     plus (plus (rows_on 1 s) (rows_on 2 (plus s (rows_on 1 s)))) (doubled (plus s (rows_on 1 s))) ≡ MixColumns s
-mix-is s lt =
+mix_is s lt =
     let r0 : (k : ℕ) → _ = λ k. row0 (get_or s (4 * k) 0) (get_or s (4 * k + 1) 0) (get_or s (4 * k + 2) 0) (get_or s (4 * k + 3) 0) (lt (4 * k)) (lt (4 * k + 1)) (lt (4 * k + 2)) (lt (4 * k + 3)) in
     let r1 : (k : ℕ) → _ = λ k. row1 (get_or s (4 * k) 0) (get_or s (4 * k + 1) 0) (get_or s (4 * k + 2) 0) (get_or s (4 * k + 3) 0) (lt (4 * k)) (lt (4 * k + 1)) (lt (4 * k + 2)) (lt (4 * k + 3)) in
     let r2 : (k : ℕ) → _ = λ k. row2 (get_or s (4 * k) 0) (get_or s (4 * k + 1) 0) (get_or s (4 * k + 2) 0) (get_or s (4 * k + 3) 0) (lt (4 * k)) (lt (4 * k + 1)) (lt (4 * k + 2)) (lt (4 * k + 3)) in

@@ -6,7 +6,7 @@ use Rattle.bits.specs.BytePlanes.{byte_of, lane}
 use Rattle.bits.specs.Moves.{swap, from}
 use Rattle.bits.specs.Shifts.{Shift, union}
 use Rattle.bits.proofs.Everywhere.{everywhere}
-use Rattle.bits.proofs.Ext.{bit_xor, bit_shr, bit_mod}
+use Rattle.bits.proofs.Ext.{bit_of_xor, bit_shr, bit_mod}
 use Rattle.bits.proofs.BytePlanes.{lane_xor}
 use Rattle.bits.proofs.Listed.{eight_eq}
 use Rattle.bits.proofs.Route.{only, union_bit}
@@ -54,18 +54,18 @@ next_test = everywhere true 64 (λ n. only next n (in_plane (row_on 1) n)) (λ n
 second_test : (n : ℕ) → n < 64 → only second n (in_plane (row_on 2) n) ≡ true
 second_test = everywhere true 64 (λ n. only second n (in_plane (row_on 2) n)) (λ n. true) refl
 
-union-lane :
+union_lane :
     (ts : List Shift) (ρ : ℕ → ℕ) → ((n : ℕ) → n < 64 → only ts n (in_plane ρ n) ≡ true) → (i : ℕ) → i < 16 →
     (e o : ℕ) → lane (planes (union 64 ts e) (union 64 ts o)) i ≡ lane (planes e o) (ρ i)
-union-lane ts ρ t i h =
+union_lane ts ρ t i h =
     moved_lane (union 64 ts) i (ρ i)
     (λ x k l. let g : 16 * k + i < 64 = omega arith in union_bit 64 ts x (16 * k + i) (in_plane ρ (16 * k + i)) g (t (16 * k + i) g) ∙ ap (bit x) (in_plane_at ρ k i h))
 
 pub next_lane : (i : ℕ) → i < 16 → (e o : ℕ) → lane (planes (union 64 next e) (union 64 next o)) i ≡ lane (planes e o) (row_on 1 i)
-next_lane = union-lane next (row_on 1) next_test
+next_lane = union_lane next (row_on 1) next_test
 
 pub second_lane : (i : ℕ) → i < 16 → (e o : ℕ) → lane (planes (union 64 second e) (union 64 second o)) i ≡ lane (planes e o) (row_on 2 i)
-second_lane = union-lane second (row_on 2) second_test
+second_lane = union_lane second (row_on 2) second_test
 
 -- ShiftRows: row r takes its byte from r columns on; turned by one place in rows 1 and 3, and by two places before that
 abbrev turned : ℕ → ℕ
@@ -92,15 +92,15 @@ shifted_lane i h =
 
 -- the sum of two states, lane by lane
 pub xor_bit : (x y k i : ℕ) → bit (bit_xor x y / 2 ^ k) i ≡ bit_xor (bit (x / 2 ^ k) i) (bit (y / 2 ^ k) i)
-xor_bit x y k i = bit_shr (bit_xor x y) k i ∙ bit_xor x y (k + i) ∙ sym (ap₂ bit_xor (bit_shr x k i) (bit_shr y k i))
+xor_bit x y k i = bit_shr (bit_xor x y) k i ∙ bit_of_xor x y (k + i) ∙ sym (ap₂ bit_xor (bit_shr x k i) (bit_shr y k i))
 
 pub plus_lane : (i e o f p : ℕ) → lane (planes (e ⊕ f) (o ⊕ p)) i ≡ lane (planes e o) i ⊕ lane (planes f p) i
 plus_lane i e o f p =
     lane_xor (planes (e ⊕ f) (o ⊕ p)) (planes e o) (planes f p) i i i at
   where
     at : (j : ℕ) → j < 8 → bit (get_or (planes (e ⊕ f) (o ⊕ p)) j 0) i ≡ bit_xor (bit (get_or (planes e o) j 0) i) (bit (get_or (planes f p) j 0) i)
-    at zero h = bit_xor e f i
-    at (suc zero) h = bit_xor o p i
+    at zero h = bit_of_xor e f i
+    at (suc zero) h = bit_of_xor o p i
     at (suc (suc zero)) h = xor_bit e f 16 i
     at (suc (suc (suc zero))) h = xor_bit o p 16 i
     at (suc (suc (suc (suc zero)))) h = xor_bit e f 32 i

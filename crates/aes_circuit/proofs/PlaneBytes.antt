@@ -13,10 +13,10 @@ use Rattle.bits.proofs.Swaps.{sound, swaps_bit}
 use Rattle.aes_circuit.specs.Planes.{planes, bytes_of, inward, outward}
 
 -- a lane whose bits are those of byte i of a number
-number-lane :
+number_lane :
     (x e o i : ℕ) → ((k : ℕ) → k < 4 → bit e (16 * k + i) ≡ bit x (8 * i + 2 * k)) → ((k : ℕ) → k < 4 → bit o (16 * k + i) ≡ bit x (8 * i + (2 * k + 1))) →
     lane (planes e o) i ≡ x / 256 ^ i % 256
-number-lane x e o i even odd =
+number_lane x e o i even odd =
     let z : i ≡ 16 * 0 + i = omega arith in
     let E : (k : ℕ) → k < 4 → bit e (16 * k + i) ≡ bit (x / 256 ^ i) (2 * k) = λ k h. even k h ∙ bit_byte x i (2 * k) in
     let O : (k : ℕ) → k < 4 → bit o (16 * k + i) ≡ bit (x / 256 ^ i) (2 * k + 1) = λ k h. odd k h ∙ bit_byte x i (2 * k + 1) in
@@ -45,7 +45,7 @@ in_lane : (x y i : ℕ) → y ≡ swaps 128 inward x → i < 16 → lane (planes
 in_lane x y i e h =
     let at : (n : ℕ) → n < 128 → bit y n ≡ bit x (8 * (n % 16) + 2 * (n / 16 % 4) + n / 64) =
     λ n g. ap (λ v. bit v n) e ∙ swaps_bit 128 inward x n (in_sound n g) ∙ ap (bit x) (in_source n g) in
-    number-lane x (y % 2 ^ 64) (y / 2 ^ 64) i
+    number_lane x (y % 2 ^ 64) (y / 2 ^ 64) i
     (λ k g.
     let n : ℕ = 16 * k + i in
     let p : 8 * (n % 16) + 2 * (n / 16 % 4) + n / 64 ≡ 8 * i + 2 * k + 0 = place n i k 0 (omega arith) (omega arith) (omega arith) g in
@@ -61,7 +61,7 @@ out_lane x y e o i small is from h =
     λ n g. ap (λ v. bit v n) from ∙ swaps_bit 128 outward y n (out_sound n g) ∙ ap (bit y) (out_source n g) in
     let E : y % 2 ^ 64 ≡ e = omega arith in
     let O : y / 2 ^ 64 ≡ o = omega arith in
-    number-lane x e o i
+    number_lane x e o i
     (λ k g.
     let n : ℕ = 8 * i + 2 * k in
     let p : 16 * k + i ≡ 64 * (n % 2) + 16 * (n % 8 / 2) + n / 8 = omega arith in
@@ -82,11 +82,11 @@ in_is b x y l small e f =
     (fill_by_all (lane (planes (y % 2 ^ 64) (y / 2 ^ 64))) b 16 0 l
     (λ i h. sym (in_lane x y i f h ∙ ap (λ v. v / 256 ^ i % 256) e ∙ digit 255 (λ k. get_or b k 0) small 16 i h)))
 
-pub out-is :
+pub out_is :
     (x y e o : ℕ) → e < 2 ^ 64 → y ≡ o * 2 ^ 64 + e → x ≡ swaps 128 outward y →
     (x % 256) ∷ (x / 256 % 256) ∷ (x / 256 ^ 2 % 256) ∷ (x / 256 ^ 3 % 256) ∷ (x / 256 ^ 4 % 256) ∷ (x / 256 ^ 5 % 256) ∷ (x / 256 ^ 6 % 256) ∷ (x / 256 ^ 7 % 256) ∷ (x / 256 ^ 8 % 256) ∷ (x / 256 ^ 9 % 256) ∷ (x / 256 ^ 10 % 256) ∷ (x / 256 ^ 11 % 256) ∷ (x / 256 ^ 12 % 256) ∷ (x / 256 ^ 13 % 256) ∷ (x / 256 ^ 14 % 256) ∷ (x / 256 ^ 15 % 256) ∷ [] ≡ bytes_of e o
 unfolding bytes_of
-out-is x y e o small is from =
+out_is x y e o small is from =
     let at : (i : ℕ) → i < 16 → x / 256 ^ i % 256 ≡ lane (planes e o) i = λ i h. sym (out_lane x y e o i small is from h) in
     sixteen_eq (ap (λ v. v % 256) (sym (div-one x)) ∙ at 0 (omega arith)) (at 1 (omega arith)) (at 2 (omega arith)) (at 3 (omega arith)) (at 4 (omega arith)) (at 5 (omega arith)) (at 6 (omega arith)) (at 7 (omega arith))
     (at 8 (omega arith)) (at 9 (omega arith)) (at 10 (omega arith)) (at 11 (omega arith)) (at 12 (omega arith)) (at 13 (omega arith)) (at 14 (omega arith)) (at 15 (omega arith))

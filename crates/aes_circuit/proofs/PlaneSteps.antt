@@ -15,7 +15,7 @@ use Rattle.aes.specs.Fips197.{SubBytes, ShiftRows, MixColumns}
 use Rattle.aes_circuit.specs.Planes.{planes, bytes_of, plus, rows_on, doubled, packed, shifted, next, second}
 use Rattle.aes_circuit.proofs.SboxLanes.{sboxes_lane}
 use Rattle.aes_circuit.proofs.PlaneBits.{plus_lane, packed_lane, shifted_lane, next_lane, second_lane}
-use Rattle.aes_circuit.proofs.Mixing.{doubled_lane, mix-is}
+use Rattle.aes_circuit.proofs.Mixing.{doubled_lane, mix_is}
 
 all : (f g : ℕ → ℕ) → ((i : ℕ) → i < 16 → f i ≡ g i) → map f (range_with_len 0 16) ≡ map g (range_with_len 0 16)
 all f g h =
@@ -48,7 +48,7 @@ pub mixed_is :
     (s a y z d b r : List ℕ) → ((i : ℕ) → get_or s i 0 < 256) → a ≡ rows_on 1 s → y ≡ plus s a → z ≡ rows_on 2 y → d ≡ doubled y → b ≡ plus a z → r ≡ plus b d → r ≡ MixColumns s
 mixed_is s a y z d b r lt ea ey ez ed eb er =
     let y' : y ≡ plus s (rows_on 1 s) = ey ∙ ap (plus s) ea in
-    er ∙ ap₂ plus (eb ∙ ap₂ plus ea (ez ∙ ap (rows_on 2) y')) (ed ∙ ap doubled y') ∙ mix-is s lt
+    er ∙ ap₂ plus (eb ∙ ap₂ plus ea (ez ∙ ap (rows_on 2) y')) (ed ∙ ap doubled y') ∙ mix_is s lt
 
 pub bytes_lt : (e o i : ℕ) → get_or (bytes_of e o) i 0 < 256
 unfolding bytes_of

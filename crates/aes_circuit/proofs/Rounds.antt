@@ -15,10 +15,10 @@ pub start_step : (w block p k r : List ℕ) → p ≡ block → k ≡ round_key 
 unfolding rounds
 start_step w block p k r ep ek er = add_is w 0 p k r ek er ∙ ap (AddRoundKey w 0) ep
 
-pub round-step :
+pub round_step :
     (w block s b h m k r : List ℕ) (i : ℕ) → 1 ≤ i → s ≡ rounds w block (i - 1) → b ≡ SubBytes s → h ≡ ShiftRows b → m ≡ MixColumns h → k ≡ round_key w i → r ≡ plus m k →
     r ≡ rounds w block (i + 1 - 1)
-round-step w block s b h m k r i low inv eb eh em ek er =
+round_step w block s b h m k r i low inv eb eh em ek er =
     let n : i - 1 + 1 ≡ i = omega arith in
     let l : i - 1 + 1 ≡ i + 1 - 1 = omega arith in
     let t : m ≡ MixColumns (ShiftRows (SubBytes (rounds w block (i - 1)))) = em ∙ ap MixColumns (eh ∙ ap ShiftRows (eb ∙ ap SubBytes inv)) in

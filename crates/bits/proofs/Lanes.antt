@@ -4,7 +4,7 @@ use lib.Bits.{bit_and, bit_or, bit_xor, and_zero_r, or_zero_r, xor_zero_l, xor_z
 use Rattle.std.specs.List.{range_with_len}
 use Rattle.std.proofs.lemmas.List.FromFn.{fill_by_all, length-map-range_with_len, get_or-map-range_with_len}
 use Rattle.std.proofs.lemmas.Bool.{cases_lt}
-use Rattle.bits.specs.Digits.{sum, bit}
+use Rattle.bits.specs.Digits.{bit}
 use Rattle.bits.specs.Lanes.{lane, planes, gathered}
 use Rattle.bits.specs.Linear.{Linear, value}
 use Rattle.bits.specs.Nibbles.{each}
@@ -153,10 +153,10 @@ pub each_at : (n : ℕ) (f g : ℕ → ℕ) → each n f ≡ each n g → (i : �
 each_at n f g e i h = sym (get_or-map-range_with_len f 0 n i i 0 h (omega arith)) ∙ ap (λ xs. get_or xs i 0) e ∙ get_or-map-range_with_len g 0 n i i 0 h (omega arith)
 
 -- a linear map by lanes: it gives g i in lane i of every word if it does so in the w words that have one bit
-pub lanes-agree :
+pub lanes_agree :
     (w n : ℕ) (ρ : ℕ → ℕ) (e : Linear) (g : ℕ → ℕ → ℕ) → ((i : ℕ) → Additive (g i)) → map (λ b. each n (λ i. lane ρ (value w e (2 ^ b)) i)) (range_with_len 0 w) ≡ map (λ b. each n (λ i. g i (2 ^ b))) (range_with_len 0 w) →
     (x : ℕ) → x < 2 ^ w → (i : ℕ) → i < n → lane ρ (value w e x) i ≡ g i x
-lanes-agree w n ρ e g G test x h i l =
+lanes_agree w n ρ e g G test x h i l =
     agree w (λ y. lane ρ (value w e y) i) (g i) (λ a b. ap (λ y. lane ρ y i) (additive w e a b) ∙ lane_xor ρ i (value w e a) (value w e b)) (G i)
     (λ b m. each_at n (λ j. lane ρ (value w e (2 ^ b)) j) (λ j. g j (2 ^ b)) (everywhere [] w (λ k. each n (λ j. lane ρ (value w e (2 ^ k)) j)) (λ k. each n (λ j. g j (2 ^ k))) test b m) i l)
     x h

@@ -1,5 +1,5 @@
 -- The lifting lemma, once for every circuit: taking bit i of every wire commutes with running the circuit.
-use Rattle.std.proofs.Common.{◌≡◌, ℕ, zero, suc, ◌+◌, ◌*◌, ◌/◌, ◌%◌, ◌^◌, ◌<◌, List, [], ◌∷◌, map, get_or, sym, refl, ap, ◌∙◌, subst, ap₂}
+use Rattle.std.proofs.Common.{◌≡◌, ℕ, zero, suc, ◌%◌, ◌^◌, List, [], ◌∷◌, map, refl, ap, ◌∙◌, ap₂}
 use native.Mathlib.Nat.{zero-div}
 use lib.Bits.{bit_and, bit_or, bit_xor}
 use Rattle.bits.specs.Circuit.{Gate, xor, and, or, wire, gate, run, outs}

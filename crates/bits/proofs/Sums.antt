@@ -1,8 +1,8 @@
 -- A sum of digits times powers of a base has those digits; the base is suc c.
-use Rattle.std.proofs.Common.{◌≡◌, ℕ, zero, suc, ◌+◌, ◌-◌, ◌*◌, ◌/◌, ◌%◌, ◌^◌, ◌<◌, ◌≤◌, ◌⊎◌, sym, refl, ap, ◌∙◌, subst, ⊎_elim, mul-le-mul_right, mod-eq_of_lt, mul_assoc, mul_comm, pow-suc, zero-add, mul-suc, arith, pow-add}
+use Rattle.std.proofs.Common.{◌≡◌, ℕ, zero, suc, ◌+◌, ◌-◌, ◌*◌, ◌/◌, ◌%◌, ◌^◌, ◌<◌, ◌≤◌, sym, refl, ap, ◌∙◌, subst, ⊎_elim, mul-le-mul_right, mod-eq_of_lt, mul_assoc, mul_comm, pow-suc, zero-add, mul-suc, arith, pow-add}
 use native.Mathlib.Nat.{add-mul-div_right, add-mul-mod_self_right, div-eq_of_lt, pow-zero, div-div-eq-div-mul}
 use Rattle.std.proofs.lemmas.Bool.{cases_lt}
-use Rattle.bits.specs.Digits.{sum, bit, word}
+use Rattle.bits.specs.Digits.{sum, bit}
 
 pub sum_cong : (n : ℕ) (f g : ℕ → ℕ) → ((i : ℕ) → i < n → f i ≡ g i) → sum n f ≡ sum n g
 sum_cong zero f g h = refl

@@ -2,7 +2,7 @@
 use Rattle.std.proofs.Common.{◌≡◌, ℕ, ◌*◌, ◌%◌, ◌^◌, Bool, true, T, eqb, ltb, List, [], ◌∷◌, sym, refl, ◌∙◌, subst, eqb→eq, ltb→lt}
 use lib.Bits.{bit_and}
 use Rattle.bits.specs.Digits.{bit}
-use Rattle.bits.specs.Moves.{swap, from}
+use Rattle.bits.specs.Moves.{swap}
 use Rattle.bits.specs.Swaps.{Swap, by, swaps, source}
 use Rattle.bits.proofs.Table.{both, both_left, both_right}
 use Rattle.bits.proofs.Swap.{swap_bit}

@@ -1,5 +1,5 @@
 -- Straight-line bitwise circuits as data, and their value on words.
-use Rattle.std.specs.Prelude.{ℕ, zero, suc, ◌+◌, List, [], ◌∷◌, map, bit_and, bit_or, bit_xor, slice_index}
+use Rattle.std.specs.Prelude.{ℕ, List, [], ◌∷◌, map, bit_and, bit_or, bit_xor, slice_index}
 
 -- a gate names two wires, counted from the newest
 pub data Gate : Type 0 where

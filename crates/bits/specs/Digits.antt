@@ -1,5 +1,5 @@
 -- Numbers by their digits: bits and 4-bit words, counted from the right.
-use Rattle.std.specs.Prelude.{ℕ, zero, suc, ◌+◌, ◌*◌, ◌/◌, ◌%◌, ◌^◌}
+use Rattle.std.specs.Prelude.{ℕ, zero, suc, ◌+◌, ◌/◌, ◌%◌, ◌^◌}
 
 -- the sum of f i over the i below n
 abbrev pub sum : ℕ → (ℕ → ℕ) → ℕ

@@ -1,7 +1,7 @@
 -- Blocks of four words of q bytes: the tweaks are powers of f2, and words as numbers.
-use Rattle.std.proofs.Common.{◌≡◌, ℕ, zero, suc, ◌+◌, ◌-◌, ◌*◌, ◌/◌, ◌%◌, ◌<◌, ◌≤◌, min, ◌⊎◌, List, [], ◌∷◌, ◌++◌, length, get_or, take, drop, sym, refl, ap, ◌∙◌, inl, inr, ⊎_elim, mod-eq_of_lt, arith, length-append, length-drop, length-take}
+use Rattle.std.proofs.Common.{◌≡◌, ℕ, zero, suc, ◌+◌, ◌-◌, ◌*◌, ◌/◌, ◌%◌, ◌<◌, ◌≤◌, min, ◌⊎◌, [], ◌∷◌, ◌++◌, length, get_or, take, drop, sym, refl, ap, ◌∙◌, inl, inr, ⊎_elim, mod-eq_of_lt, arith, length-append, length-drop, length-take}
 use lib.Bits.{bit_xor, bit_or, xor_mod, xor_shr, or_mod, or_shr, or_zero_r}
-use Rattle.std.proofs.lemmas.List.{append_assoc, take_at, drop_at, take_all, take-append-drop, drop-drop, drop_more}
+use Rattle.std.proofs.lemmas.List.{take_at, drop_at, take_all, take-append-drop, drop-drop, drop_more}
 use Rattle.std.proofs.lemmas.Nat.{mod-mul-add, div-mul-add, shr-shr}
 use Rattle.blocks.specs.Blocks.{Bytes, ◌⊕◌}
 use Rattle.blocks.specs.Pads.{fix1}

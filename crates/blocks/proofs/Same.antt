@@ -1,8 +1,8 @@
 -- Comparing strings by the bits in which they differ.
-use Rattle.std.proofs.Common.{◌≡◌, ℕ, zero, suc, ◌+◌, ◌<◌, Bool, true, false, ◌&&◌, eqb, List, [], ◌∷◌, length, get_or, take, sym, refl, ap, ◌∙◌, ⊎_elim, add-one, arith}
-use lib.Bits.{bit_xor, bit_or, bit_and, or_add_and, and_le_l, and_le_r, xor_self, xor_assoc, xor_zero_r, xor_zero_l, or_zero_l, or_zero_r}
+use Rattle.std.proofs.Common.{◌≡◌, ℕ, zero, suc, ◌+◌, ◌<◌, Bool, true, false, ◌&&◌, eqb, [], ◌∷◌, length, get_or, take, sym, refl, ap, ◌∙◌, ⊎_elim, add-one, arith}
+use lib.Bits.{bit_xor, bit_or, or_add_and, and_le_r, xor_self, xor_assoc, xor_zero_r, xor_zero_l, or_zero_l}
 use Rattle.std.specs.Str.{bytes_eq}
-use Rattle.std.proofs.lemmas.Bool.{cases_Bool, eqb-true, eq-eqb, ne_eqb, and_left}
+use Rattle.std.proofs.lemmas.Bool.{cases_Bool, eqb-true, eq-eqb, ne_eqb}
 use Rattle.blocks.specs.Blocks.{Bytes}
 
 pub same_lengths : (X Y : Bytes) → (length X ≡ length Y → ⊥) → bytes_eq X Y ≡ false

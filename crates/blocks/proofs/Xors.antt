@@ -1,5 +1,5 @@
 -- Exclusive or of blocks, byte by byte and padded.
-use Rattle.std.proofs.Common.{◌≡◌, ℕ, zero, suc, ◌+◌, ◌-◌, ◌<◌, ◌≤◌, min, List, [], ◌∷◌, ◌++◌, length, get_or, take, drop, set, replicate, sym, refl, ap, ◌∙◌, add-one, arith}
+use Rattle.std.proofs.Common.{◌≡◌, ℕ, zero, suc, ◌+◌, ◌-◌, ◌<◌, ◌≤◌, min, [], ◌∷◌, ◌++◌, length, get_or, take, drop, set, replicate, sym, refl, ap, ◌∙◌, add-one, arith}
 use lib.Bits.{bit_xor, xor_zero_r, xor_zero_l, xor_comm, xor_assoc, xor_self}
 use Rattle.std.proofs.lemmas.Bool.{lt-ltb}
 use Rattle.blocks.specs.Blocks.{Bytes, ◌⊕◌}

@@ -1,5 +1,5 @@
 -- Byte strings and their blocks, in the notation of the CLOC and SILC v3 submission. Lengths are in bytes, b is the block length.
-use Rattle.std.specs.Prelude.{ℕ, zero, suc, ◌+◌, ◌-◌, ◌/◌, Bool, true, false, List, [], ◌∷◌, ◌++◌, length, take, drop, bit_xor, nat_le}
+use Rattle.std.specs.Prelude.{ℕ, zero, suc, ◌+◌, ◌-◌, ◌/◌, Bool, false, List, [], ◌∷◌, ◌++◌, length, take, drop, bit_xor, nat_le}
 
 abbrev pub Bytes : Type 0
 Bytes = List ℕ

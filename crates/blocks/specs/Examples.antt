@@ -1,10 +1,9 @@
 -- Values worked by hand.
-use Rattle.std.specs.Prelude.{◌≡◌, ℕ, List, [], ◌∷◌, map, refl}
-use Rattle.std.specs.Int.Bits.{bit_xor}
-use Rattle.blocks.specs.Blocks.{Bytes, ◌⊕◌, msb, parts, blocks, front, last}
-use Rattle.blocks.specs.Pads.{str, ozp, zap, zpp, Len, fix0, fix1}
-use Rattle.blocks.specs.Words.{f1, f2, g1, g2, h, g, power}
-use Rattle.blocks.specs.Chain.{chain, enc, dec}
+use Rattle.std.specs.Prelude.{◌≡◌, [], ◌∷◌, refl}
+use Rattle.blocks.specs.Blocks.{Bytes, ◌⊕◌, blocks, last}
+use Rattle.blocks.specs.Pads.{str, ozp, zap, zpp, Len, fix0}
+use Rattle.blocks.specs.Words.{f1, f2, g1, h, g, power}
+use Rattle.blocks.specs.Chain.{enc, dec}
 
 -- words (1, 2, 4, 8)
 f1_words : f1 (1 ∷ 2 ∷ 4 ∷ 8 ∷ []) ≡ 5 ∷ 10 ∷ 7 ∷ 14 ∷ []

@@ -1,5 +1,5 @@
 -- Padding of a string of at most b bytes to a block of b, and fixing the first bit of a block.
-use Rattle.std.specs.Prelude.{ℕ, zero, suc, ◌-◌, ◌/◌, ◌%◌, cond, List, [], ◌∷◌, ◌++◌, length, replicate, bit_and, bit_or, nat_lt}
+use Rattle.std.specs.Prelude.{ℕ, zero, suc, ◌-◌, ◌/◌, ◌%◌, cond, [], ◌∷◌, ◌++◌, length, replicate, bit_and, bit_or, nat_lt}
 use Rattle.blocks.specs.Blocks.{Bytes}
 
 -- n as a big-endian integer of b bytes, modulo 256 ^ b

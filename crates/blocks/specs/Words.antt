@@ -1,5 +1,5 @@
 -- The tweak functions: CLOC's on the four equal words of a block, SILC's on its bytes.
-use Rattle.std.specs.Prelude.{ℕ, zero, suc, ◌*◌, ◌/◌, ◌%◌, List, [], ◌∷◌, ◌++◌, length, take, drop, bit_xor}
+use Rattle.std.specs.Prelude.{ℕ, zero, suc, ◌*◌, ◌/◌, ◌%◌, [], ◌∷◌, ◌++◌, length, take, drop, bit_xor}
 use Rattle.blocks.specs.Blocks.{Bytes, ◌⊕◌}
 
 -- X[i + 1] of (X[1], X[2], X[3], X[4]) ← X

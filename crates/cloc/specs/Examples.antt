@@ -21,11 +21,11 @@ abbrev small_v : Bytes
 small_v = HASH 4 small 9 (1 ∷ 2 ∷ []) (0xff ∷ 1 ∷ 2 ∷ 3 ∷ 4 ∷ 5 ∷ 6 ∷ 7 ∷ 8 ∷ [])
 
 -- two blocks of contents under it, with a tag of 3 bytes
-small-sealed :
+small_sealed :
     sealed_by 4 small 3 small_v (10 ∷ 20 ∷ 30 ∷ 40 ∷ 50 ∷ 60 ∷ []) ≡
     record { ciphertext = 0x05 ∷ 0x93 ∷ 0x98 ∷ 0x5c ∷ 0xa7 ∷ 0xa3 ∷ []; tag = 0xde ∷ 0x81 ∷ 0xff ∷ [] }
 unfolding HASH tag_block
-small-sealed = refl
+small_sealed = refl
 
 small_opened : opened_by 4 small 3 small_v (0x05 ∷ 0x93 ∷ 0x98 ∷ 0x5c ∷ 0xa7 ∷ 0xa3 ∷ []) (0xde ∷ 0x81 ∷ 0xff ∷ []) ≡ Some (10 ∷ 20 ∷ 30 ∷ 40 ∷ 50 ∷ 60 ∷ [])
 unfolding HASH tag_block

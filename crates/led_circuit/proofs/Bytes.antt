@@ -1,12 +1,12 @@
 -- Blocks as states, and states as blocks.
-use Rattle.std.proofs.Common.{◌≡◌, ℕ, suc, ◌+◌, ◌-◌, ◌*◌, ◌/◌, ◌%◌, ◌^◌, ◌<◌, List, [], ◌∷◌, length, get_or, sym, refl, ap, ◌∙◌, mod-lt, arith}
-use Rattle.bits.specs.Digits.{sum, bit, word}
+use Rattle.std.proofs.Common.{◌≡◌, ℕ, ◌+◌, ◌-◌, ◌*◌, ◌/◌, ◌%◌, ◌^◌, ◌<◌, List, [], ◌∷◌, length, get_or, sym, refl, ap, ◌∙◌, mod-lt, arith}
+use Rattle.bits.specs.Digits.{sum, word}
 use Rattle.bits.specs.Lanes.{lane}
 use Rattle.bits.specs.Linear.{value}
 use Rattle.bits.specs.Nibbles.{each, nibbles, bytes}
 use Rattle.bits.proofs.Everywhere.{everywhere}
 use Rattle.bits.proofs.Ext.{ext, bit_mod}
-use Rattle.bits.proofs.Lanes.{each_eq, lane_bit, lane_lt, lane_xor, lanes-agree}
+use Rattle.bits.proofs.Lanes.{each_eq, lane_bit, lane_lt, lane_xor, lanes_agree}
 use Rattle.bits.proofs.Listed.{listed, AllBelow, below_at, eight_eq}
 use Rattle.bits.proofs.Sums.{digit, bit_word}
 use Rattle.led_circuit.specs.Planes.{place, cells, loading, storing}
@@ -27,11 +27,11 @@ flip_small i h = let z : flip i - 15 ≡ 0 = everywhere 0 16 (λ k. flip k - 15)
 
 loading_at : (w : ℕ) → w < 2 ^ 64 → (i : ℕ) → i < 16 → lane place (value 64 loading w) i ≡ lane own w (flip i)
 unfolding lane
-loading_at = lanes-agree 64 16 place loading (λ i w. lane own w (flip i)) (λ i. lane_xor own (flip i)) refl
+loading_at = lanes_agree 64 16 place loading (λ i w. lane own w (flip i)) (λ i. lane_xor own (flip i)) refl
 
 storing_at : (x : ℕ) → x < 2 ^ 64 → (i : ℕ) → i < 16 → lane own (value 64 storing x) i ≡ lane place x (flip i)
 unfolding lane
-storing_at = lanes-agree 64 16 own storing (λ i x. lane place x (flip i)) (λ i. lane_xor place (flip i)) refl
+storing_at = lanes_agree 64 16 own storing (λ i x. lane place x (flip i)) (λ i. lane_xor place (flip i)) refl
 
 -- the nibbles of eight bytes, the lowest first
 abbrev halves : List ℕ → List ℕ
@@ -39,12 +39,12 @@ halves b =
     get_or b 0 0 % 16 ∷ get_or b 0 0 / 16 ∷ get_or b 1 0 % 16 ∷ get_or b 1 0 / 16 ∷ get_or b 2 0 % 16 ∷ get_or b 2 0 / 16 ∷ get_or b 3 0 % 16 ∷ get_or b 3 0 / 16
     ∷ get_or b 4 0 % 16 ∷ get_or b 4 0 / 16 ∷ get_or b 5 0 % 16 ∷ get_or b 5 0 / 16 ∷ get_or b 6 0 % 16 ∷ get_or b 6 0 / 16 ∷ get_or b 7 0 % 16 ∷ get_or b 7 0 / 16 ∷ []
 
-pub loaded-is :
+pub loaded_is :
     (b : List ℕ) → length b ≡ 8 → AllBelow 256 (each 8 (λ i. get_or b i 0)) → (w : ℕ) →
     w ≡ get_or b 0 0 + get_or b 1 0 * 256 + get_or b 2 0 * 65536 + get_or b 3 0 * 16777216 + get_or b 4 0 * 4294967296 + get_or b 5 0 * 1099511627776 + get_or b 6 0 * 281474976710656 + get_or b 7 0 * 72057594037927936 →
     (x : ℕ) → x ≡ value 64 loading w → cells x ≡ nibbles b
 unfolding nibbles
-loaded-is b e small w ew x ex =
+loaded_is b e small w ew x ex =
     let ns : List ℕ = halves b in
     let low : AllBelow 16 ns =
     (omega arith, (omega arith, (omega arith, (omega arith, (omega arith, (omega arith, (omega arith, (omega arith, (omega arith, (omega arith, (omega arith, (omega arith, (omega arith, (omega arith, (omega arith, (omega arith, tt)))))))))))))))) in

@@ -2,14 +2,13 @@
 use Rattle.std.proofs.Common.{◌≡◌, ℕ, zero, suc, ◌+◌, ◌-◌, ◌*◌, ◌/◌, ◌%◌, ◌^◌, ◌<◌, Bool, true, false, cond, eqb, List, [], ◌∷◌, get_or, sym, refl, ap, ◌∙◌, ap₂, arith}
 use lib.Bits.{bit_xor}
 use Rattle.bits.specs.Lanes.{lane, planes, gathered}
-use Rattle.bits.specs.Linear.{Linear, after, value}
-use Rattle.bits.specs.Nibbles.{each}
+use Rattle.bits.specs.Linear.{after, value}
 use Rattle.bits.proofs.Everywhere.{everywhere}
-use Rattle.bits.proofs.Lanes.{Fit, Lifts, Is, four, found, wanted, substituted, each_eq, lane_lt, lane_xor, lanes-agree}
-use Rattle.bits.proofs.Lift.{bits, lift_outs}
+use Rattle.bits.proofs.Lanes.{Fit, Lifts, Is, four, found, wanted, substituted, each_eq, lane_lt, lane_xor, lanes_agree}
+use Rattle.bits.proofs.Lift.{lift_outs}
 use Rattle.bits.proofs.Linear.{Additive, interchange}
 use Rattle.present.specs.SBoxCircuit.{gates, places, circuit}
-use Rattle.led.specs.Led.{◌⊕◌, S, M, at, xtimes, times, SubCells, ShiftRows, MixColumnsSerial, addRoundKey}
+use Rattle.led.specs.Led.{S, M, at, xtimes, times, SubCells, ShiftRows, MixColumnsSerial, addRoundKey}
 use Rattle.led_circuit.specs.Planes.{place, cells, shifting, mixing}
 
 -- the circuit is the S-box
@@ -83,7 +82,7 @@ row_xor i =
 
 row_at : (x : ℕ) → x < 2 ^ 64 → (i : ℕ) → i < 16 → lane place (value 64 (after mixing shifting) x) i ≡ row i x
 unfolding lane times
-row_at = lanes-agree 64 16 place (after mixing shifting) row row_xor refl
+row_at = lanes_agree 64 16 place (after mixing shifting) row row_xor refl
 
 pub linear_layers : (x : ℕ) → x < 2 ^ 64 → cells (value 64 (after mixing shifting) x) ≡ MixColumnsSerial (ShiftRows (cells x))
 linear_layers x h = each_eq 16 (lane place (value 64 (after mixing shifting) x)) (λ i. row i x) (row_at x h)

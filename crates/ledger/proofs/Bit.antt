@@ -1,16 +1,16 @@
-use Rattle.std.proofs.Common.{◌≡◌, ℕ, zero, suc, ◌+◌, ◌-◌, ◌*◌, ◌/◌, ◌%◌, ◌^◌, ◌<◌, ◌≤◌, max, ◌⊎◌, sym, refl, ap, ◌∙◌, subst, inl, inr, ⊎_elim, mul_assoc, mul_comm, add_comm, one-mul, pow-suc, arith, pow-add, shr-shr}
+use Rattle.std.proofs.Common.{◌≡◌, ℕ, suc, ◌+◌, ◌-◌, ◌*◌, ◌/◌, ◌%◌, ◌^◌, ◌<◌, ◌≤◌, max, sym, ap, ◌∙◌, subst, inl, inr, mul_assoc, one-mul, pow-suc, arith, pow-add, shr-shr}
 use native.Mathlib.Nat.{div-eq_of_lt}
 use lib.Bits.{bit_or, or_shr, or_step}
 use lib.Pow.{shl-shr, field, mod-mod-pow, ones_split, high, ones_lt, pow-lt}
-use Rattle.std.proofs.lemmas.Nat.{pow_pos, one_shl}
-use Rattle.std.proofs.lemmas.Bool.{cases_order, cases_lt}
+use Rattle.std.proofs.lemmas.Nat.{pow_pos}
+use Rattle.std.proofs.lemmas.Bool.{cases_lt}
 use Rattle.ledger.specs.Marks.{bit}
 
 or_parity : (u v : ℕ) → bit_or u v % 2 ≡ max (u % 2) (v % 2)
 or_parity u v = omega (arith, or_step u v)
 
-pub bit_or : (a b i : ℕ) → bit (bit_or a b) i ≡ max (bit a i) (bit b i)
-bit_or a b i = ap (λ x. x % 2) (or_shr a b i) ∙ or_parity (a / 2 ^ i) (b / 2 ^ i)
+pub bit_of_or : (a b i : ℕ) → bit (bit_or a b) i ≡ max (bit a i) (bit b i)
+bit_of_or a b i = ap (λ x. x % 2) (or_shr a b i) ∙ or_parity (a / 2 ^ i) (b / 2 ^ i)
 
 -- an even number times anything
 even_left : (a e : ℕ) → (a * 2 ^ suc e) % 2 ≡ 0

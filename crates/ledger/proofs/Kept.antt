@@ -1,12 +1,11 @@
-use Rattle.std.proofs.Common.{◌≡◌, ℕ, zero, suc, ◌+◌, ◌-◌, ◌*◌, ◌/◌, ◌%◌, ◌^◌, ◌<◌, ◌≤◌, max, Bool, true, false, cond, ◌||◌, eqb, ltb, leb, ◌⊎◌, List, [], ◌∷◌, sym, refl, ap, ◌∙◌, subst, inl, inr, ⊎_elim, arith}
-use native.Mathlib.Nat.{max-eq_left, max-eq_right}
+use Rattle.std.proofs.Common.{◌≡◌, ℕ, ◌+◌, ◌-◌, ◌*◌, ◌%◌, ◌^◌, ◌<◌, ◌≤◌, max, Bool, true, false, cond, ◌||◌, eqb, ltb, leb, List, [], ◌∷◌, sym, refl, ap, ◌∙◌, subst, inl, inr, arith}
 use lib.Bits.{bit_or}
-use Rattle.std.proofs.lemmas.Bool.{cases_lt, cases_eq, cases_Bool, cond-true, cond-false, le-leb, lt-leb, lt-ltb, le-ltb, eq-eqb, ne_eqb, or_from, or_left, or_right}
+use Rattle.std.proofs.lemmas.Bool.{cases_lt, cases_eq, cond-true, cond-false, le-leb, lt-leb, lt-ltb, le-ltb, eq-eqb, ne_eqb, or_from, or_left, or_right}
 use Rattle.ledger.specs.declared.standing.Standing.{Standing}
 use Rattle.ledger.specs.declared.standing.Standing.TheVariants.{Old, Signed, Open}
 use Rattle.ledger.specs.Marks.{bit, marked, by_marks, is_open, may_sign}
 use Rattle.ledger.specs.History.{highest, among, signed, standing_of, flag, Represents}
-use Rattle.ledger.proofs.Bit.{bit_or, bit_up, bit_down, bit_mod, bit_one, bit_other, bit_ones}
+use Rattle.ledger.proofs.Bit.{bit_of_or, bit_up, bit_down, bit_mod, bit_one, bit_other, bit_ones}
 
 pub bit_small : (n i : ℕ) → bit n i ≤ 1
 bit_small n i = omega arith
@@ -24,18 +23,18 @@ marked_far high marks k h n = cond-false (leb k high) _ _ (lt-leb k high h) ∙ 
 -- bit by bit
 pub low_here : (high marks k : ℕ) → k ≤ high → bit (marked high marks k) (high - k) ≡ 1
 low_here high marks k h =
-    ap (λ x. bit x (high - k)) (marked_low high marks k h) ∙ bit_or marks (2 ^ (high - k)) (high - k)
+    ap (λ x. bit x (high - k)) (marked_low high marks k h) ∙ bit_of_or marks (2 ^ (high - k)) (high - k)
     ∙ omega (arith, bit_one (high - k), bit_small marks (high - k))
 
 pub low_other : (high marks k i : ℕ) → k ≤ high → (high - k ≡ i → ⊥) → bit (marked high marks k) i ≡ bit marks i
 low_other high marks k i h ne =
-    ap (λ x. bit x i) (marked_low high marks k h) ∙ bit_or marks (2 ^ (high - k)) i
+    ap (λ x. bit x i) (marked_low high marks k h) ∙ bit_of_or marks (2 ^ (high - k)) i
     ∙ omega (arith, bit_other (high - k) i ne)
 
 pub high_here : (high marks k : ℕ) → high < k → bit (marked high marks k) 0 ≡ 1
 high_here high marks k h =
     elim (cases_lt (k - high) 64) [
-      | inl n ↦ ap (λ x. bit x 0) (marked_near high marks k h n) ∙ bit_or ((marks * 2 ^ (k - high)) % 2 ^ 64) 1 0
+      | inl n ↦ ap (λ x. bit x 0) (marked_near high marks k h n) ∙ bit_of_or ((marks * 2 ^ (k - high)) % 2 ^ 64) 1 0
           ∙ omega (arith, bit_one 0, bit_small ((marks * 2 ^ (k - high)) % 2 ^ 64) 0)
       | inr n ↦ ap (λ x. bit x 0) (marked_far high marks k h n)
     ]
@@ -46,7 +45,7 @@ one_none i p = let ne : 0 ≡ i → ⊥ = λ e. omega arith in bit_other 0 i ne
 pub high_gap : (high marks k i : ℕ) → high < k → 0 < i → i < 64 → i < k - high → bit (marked high marks k) i ≡ 0
 high_gap high marks k i h p l g =
     elim (cases_lt (k - high) 64) [
-      | inl n ↦ ap (λ x. bit x i) (marked_near high marks k h n) ∙ bit_or ((marks * 2 ^ (k - high)) % 2 ^ 64) 1 i
+      | inl n ↦ ap (λ x. bit x i) (marked_near high marks k h n) ∙ bit_of_or ((marks * 2 ^ (k - high)) % 2 ^ 64) 1 i
           ∙ omega (arith, one_none i p, bit_mod (marks * 2 ^ (k - high)) i l, bit_down marks (k - high) i g)
       | inr n ↦ ap (λ x. bit x i) (marked_far high marks k h n) ∙ one_none i p
     ]
@@ -55,7 +54,7 @@ pub high_kept : (high marks k i : ℕ) → high < k → i < 64 → k - high ≤ 
 high_kept high marks k i h l g =
     let n : k - high < 64 = omega arith in
     let p : 0 < i = omega arith in
-    ap (λ x. bit x i) (marked_near high marks k h n) ∙ bit_or ((marks * 2 ^ (k - high)) % 2 ^ 64) 1 i
+    ap (λ x. bit x i) (marked_near high marks k h n) ∙ bit_of_or ((marks * 2 ^ (k - high)) % 2 ^ 64) 1 i
     ∙ omega (arith, one_none i p, bit_mod (marks * 2 ^ (k - high)) i l, bit_up marks (k - high) i g)
 
 -- the history

@@ -1,5 +1,5 @@
 -- What making a ledger and signing a number come to.
-use Rattle.std.specs.Prelude.{◌≡◌, ℕ, ◌+◌, ◌<◌, ◌≤◌, max, List, [], ◌∷◌, Some, None, Ok, Err, Option, Result, ◌≢◌}
+use Rattle.std.specs.Prelude.{◌≡◌, ℕ, ◌<◌, ◌≤◌, max, List, [], ◌∷◌, Some, None, Ok, Err, Option, Result, ◌≢◌}
 use Rattle.ledger.specs.declared.standing.Standing.TheVariants.{Open}
 use Rattle.ledger.specs.declared.ledger.Ledger.{Ledger}
 use Rattle.ledger.specs.Marks.{marked, by_marks}

@@ -1,9 +1,8 @@
 -- Worked values: with floor 0 and 70 signed, 6 is old, 7 is not, and 70 is signed.
-use Rattle.std.specs.Prelude.{◌≡◌, ℕ, List, [], ◌∷◌, refl}
-use Rattle.ledger.specs.declared.standing.Standing.{Standing}
+use Rattle.std.specs.Prelude.{◌≡◌, [], ◌∷◌, refl}
 use Rattle.ledger.specs.declared.standing.Standing.TheVariants.{Old, Signed, Open}
 use Rattle.ledger.specs.Marks.{marked, by_marks}
-use Rattle.ledger.specs.History.{highest, standing_of}
+use Rattle.ledger.specs.History.{standing_of}
 
 pub six_old : standing_of 0 (70 ∷ []) 6 ≡ Old
 six_old = refl

@@ -1,5 +1,5 @@
 -- What asking a count comes to.
-use Rattle.std.proofs.Common.{◌≡◌, ℕ, ◌≤◌, Some, None, Ok, Err, Result, sym, ap}
+use Rattle.std.proofs.Common.{◌≡◌, ℕ, ◌≤◌, Ok, Err, Result, sym, ap}
 use Rattle.refusal.specs.Cause.{unless}
 use Rattle.mode.specs.declared.count.RunCount.{RunCount}
 use Rattle.mode.specs.declared.fault.ModeFault.{ModeFault}

@@ -5,7 +5,7 @@ use Rattle.mode.specs.declared.fault.ModeFault.{ModeFault}
 use Rattle.mode.specs.declared.set.ParameterSet.{ParameterSet}
 use Rattle.mode.specs.Causes.{checked, work_causes, fit_causes, left_causes, Fits}
 use Rattle.mode.specs.Meaning.{Meaning}
-use Rattle.mode.specs.Sealing.{SealVerdict, sealed, unsealed, seal_causes, seal_verdict}
+use Rattle.mode.specs.Sealing.{sealed, unsealed, seal_causes, seal_verdict}
 use Rattle.mode.proofs.Firsts.{stops, passes, stopped, work_passes, fits_passes, left_passes}
 
 module _ (m : Meaning) (left : ℕ) (s : ParameterSet) (N A M : List ℕ) (out tag work : ℕ) where

@@ -5,7 +5,7 @@ use Rattle.std.specs.List.{range_with_len}
 use Rattle.bits.specs.Digits.{bit}
 use Rattle.bits.specs.Moves.{swap, from}
 use Rattle.bits.proofs.Everywhere.{everywhere}
-use Rattle.bits.proofs.Ext.{ext, bit_xor}
+use Rattle.bits.proofs.Ext.{ext, bit_of_xor}
 use Rattle.bits.proofs.Swap.{swap_bit, swap_lt}
 use Rattle.present.specs.Present.{sBoxLayer, pLayer, round}
 use Rattle.present.proofs.LayerBits.{source, sources, pLayer_bit, pLayer_lt, pLayers_bit}
@@ -51,7 +51,7 @@ permuted x a b c r h ea eb ec er =
 pub pLayer_xor : (a b : ℕ) → pLayer (bit_xor a b) ≡ bit_xor (pLayer a) (pLayer b)
 pLayer_xor a b =
     ext 64 (pLayer (bit_xor a b)) (bit_xor (pLayer a) (pLayer b)) (pLayer_lt (bit_xor a b)) (xor_lt 64 (pLayer a) (pLayer b) (pLayer_lt a) (pLayer_lt b))
-    (λ l g. pLayer_bit (bit_xor a b) l g ∙ bit_xor a b (source l) ∙ sym (bit_xor (pLayer a) (pLayer b) l ∙ ap₂ bit_xor (pLayer_bit a l g) (pLayer_bit b l g)))
+    (λ l g. pLayer_bit (bit_xor a b) l g ∙ bit_of_xor a b (source l) ∙ sym (bit_of_xor (pLayer a) (pLayer b) l ∙ ap₂ bit_xor (pLayer_bit a l g) (pLayer_bit b l g)))
 
 round_trip : (l : ℕ) → l < 64 → sources 3 l ≡ l
 round_trip = everywhere 0 64 (sources 3) (λ l. l) refl
@@ -60,10 +60,10 @@ pub thrice : (x : ℕ) → x < 2 ^ 64 → pLayer (pLayer (pLayer x)) ≡ x
 thrice x h =
     ext 64 (pLayer (pLayer (pLayer x))) x (pLayer_lt (pLayer (pLayer x))) h (λ l g. pLayers_bit 3 x l g ∙ ap (bit x) (round_trip l g))
 
-pub three-rounds :
+pub three_rounds :
     (x a b c s t u : ℕ) → u < 2 ^ 64 → s ≡ sBoxLayer (bit_xor x a) → pLayer t ≡ sBoxLayer (pLayer (bit_xor s b)) → pLayer (pLayer u) ≡ sBoxLayer (pLayer (pLayer (bit_xor t c))) →
     u ≡ round (round (round x a) (pLayer b)) (pLayer (pLayer c))
-three-rounds x a b c s t u h es et eu =
+three_rounds x a b c s t u h es et eu =
     let first : round x a ≡ pLayer s = ap pLayer (sym es) in
     let second : round (pLayer s) (pLayer b) ≡ pLayer (pLayer t) = ap (λ n. pLayer (sBoxLayer n)) (sym (pLayer_xor s b)) ∙ ap pLayer (sym et) in
     let back : bit_xor (pLayer (pLayer t)) (pLayer (pLayer c)) ≡ pLayer (pLayer (bit_xor t c)) = sym (ap pLayer (pLayer_xor t c) ∙ pLayer_xor (pLayer t) (pLayer c)) in

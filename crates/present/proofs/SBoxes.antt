@@ -3,7 +3,7 @@ use Rattle.std.proofs.Common.{◌≡◌, ℕ, zero, suc, ◌+◌, ◌-◌, ◌*�
 use lib.Bits.{bit_and, bit_or, and_zero_r, or_zero_r, and_mask, or_lt, and_le_r}
 use Rattle.bits.specs.Digits.{bit, word}
 use Rattle.bits.proofs.Everywhere.{everywhere}
-use Rattle.bits.proofs.Ext.{ext, bit_lt, bit_or, bit_and, bit_shr, bit_masked}
+use Rattle.bits.proofs.Ext.{ext, bit_lt, bit_of_or, bit_of_and, bit_shr, bit_masked}
 use Rattle.bits.proofs.Lift.{bits, wire_bits, lift_outs}
 use Rattle.present.specs.Present.{S, sBoxLayer}
 use Rattle.present.specs.SBoxCircuit.{gates, places, circuit}
@@ -119,13 +119,13 @@ module _ (ρ : ℕ → ℕ) (d m : ℕ) (fit : Fit ρ d m) (x X : ℕ) (seen : (
         let lt : q < 64 = omega arith in
         let w : ℕ → ℕ = λ k. bit (get_or ys k 0) (ρ l - k * d) in
         let e0 : bit t0 q ≡ bit_and (w 0) (one 0 j) =
-        bit_and y0 m q ∙ ap₂ (λ u v. bit_and (bit y0 u) v) (let z : ρ l ≡ ρ l - 0 * d = omega arith in z) (ap (λ v. get_or v 3 0) (fit l h)) in
+        bit_of_and y0 m q ∙ ap₂ (λ u v. bit_and (bit y0 u) v) (let z : ρ l ≡ ρ l - 0 * d = omega arith in z) (ap (λ v. get_or v 3 0) (fit l h)) in
         let e1 : bit t1 q ≡ bit_and (w 1) (one 1 j) =
         bit_masked 64 y1 m d q lt ∙ ap₂ (λ u v. bit_and (bit y1 u) v) (let z : ρ l - d ≡ ρ l - 1 * d = omega arith in z) (ap (λ v. get_or v 4 0) (fit l h)) in
         let e2 : bit t2 q ≡ bit_and (w 2) (one 2 j) = bit_masked 64 y2 m (2 * d) q lt ∙ ap (bit_and (w 2)) (ap (λ v. get_or v 5 0) (fit l h)) in
         let e3 : bit t3 q ≡ bit_and (w 3) (one 3 j) = bit_masked 64 y3 m (3 * d) q lt ∙ ap (bit_and (w 3)) (ap (λ v. get_or v 6 0) (fit l h)) in
         let o : bit (gathered d m ys) q ≡ bit_or (bit_or (bit_or (bit t0 q) (bit t1 q)) (bit t2 q)) (bit t3 q) =
-        bit_or (bit_or (bit_or t0 t1) t2) t3 q ∙ ap (λ u. bit_or u (bit t3 q)) (bit_or (bit_or t0 t1) t2 q ∙ ap (λ u. bit_or u (bit t2 q)) (bit_or t0 t1 q)) in
+        bit_of_or (bit_or (bit_or t0 t1) t2) t3 q ∙ ap (λ u. bit_or u (bit t3 q)) (bit_of_or (bit_or t0 t1) t2 q ∙ ap (λ u. bit_or u (bit t2 q)) (bit_of_or t0 t1 q)) in
         let c : bit_or (bit_or (bit_or (bit t0 q) (bit t1 q)) (bit t2 q)) (bit t3 q) ≡ chosen w j = cc in
         let p = place l h in
         let b : ρ l - j * d ≡ B = omega arith in

@@ -1,5 +1,5 @@
 -- A table of causes: a call is refused by the first line that applies, and carried out where none does.
-use Rattle.std.specs.Prelude.{Bool, true, false, cond, List, [], ◌∷◌, Some, None, Option}
+use Rattle.std.specs.Prelude.{Bool, cond, List, [], ◌∷◌, Some, None, Option}
 
 -- a line of the table: whether it applies, and the fault that it names
 pub record Cause (F : Type 0) : Type 0 where

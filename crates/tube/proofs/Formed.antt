@@ -1,12 +1,12 @@
 -- What is read was written: a tube reads exactly where the bytes are the writing of its sections.
-use Rattle.std.proofs.Common.{◌≡◌, ℕ, ◌+◌, ◌-◌, ◌*◌, ◌/◌, ◌%◌, ◌<◌, ◌≤◌, List, [], ◌∷◌, ◌++◌, length, get_or, take, drop, Ok, Err, Result, sym, refl, ap, ◌∙◌, subst, append_assoc, arith}
+use Rattle.std.proofs.Common.{◌≡◌, ℕ, ◌+◌, ◌*◌, ◌/◌, ◌%◌, ◌<◌, List, [], ◌∷◌, ◌++◌, length, get_or, take, drop, Ok, sym, refl, ap, ◌∙◌, arith}
 use Rattle.std.proofs.lemmas.List.{drop_more, drop-drop, drop_all, take-append-drop, append-nil}
 use Rattle.tube.specs.declared.span.Span.{Span}
 use Rattle.tube.specs.declared.tube.Tube.{Tube}
 use Rattle.tube.specs.Part.{part}
-use Rattle.tube.specs.Write.{four, sectioned, tube_of}
-use Rattle.tube.specs.Read.{count_at, value, parsed}
-use Rattle.tube.specs.Form.{Iff, Ranged, placed, Reads, Rewritten}
+use Rattle.tube.specs.Write.{four, sectioned}
+use Rattle.tube.specs.Read.{parsed}
+use Rattle.tube.specs.Form.{Iff, Reads, Rewritten}
 use Rattle.tube.proofs.Parts.{length_part}
 use Rattle.tube.proofs.Past.{Found, Five, parsed_five}
 use Rattle.tube.proofs.Sections.{reads_back}

@@ -1,16 +1,14 @@
 -- What is written is read again.
-use Rattle.std.proofs.Common.{◌≡◌, ℕ, zero, suc, ◌+◌, ◌-◌, ◌*◌, ◌/◌, ◌%◌, ◌<◌, ◌≤◌, Bool, true, false, cond, eqb, leb, List, [], ◌∷◌, ◌++◌, length, get_or, take, drop, Ok, Err, Result, sym, refl, ap, ◌∙◌, subst, append_assoc, add-zero, arith, length-append}
+use Rattle.std.proofs.Common.{◌≡◌, ℕ, ◌+◌, ◌/◌, ◌<◌, ◌≤◌, eqb, leb, List, [], ◌∷◌, ◌++◌, length, get_or, take, drop, Ok, Result, sym, refl, ap, ◌∙◌, subst, append_assoc, add-zero, arith, length-append}
 use lib.Seq.{take-append_seam, drop-append-add}
 use Rattle.std.proofs.lemmas.List.{get_or-append-add, append-nil}
 use Rattle.std.proofs.lemmas.Bool.{cond-true, le-leb, eq-eqb}
 use Rattle.tube.specs.declared.fault.TubeFault.{TubeFault}
 use Rattle.tube.specs.declared.fault.TubeFault.TheVariants.{Form}
-use Rattle.tube.specs.declared.span.Span.{Span}
-use Rattle.tube.specs.declared.tube.Tube.{Tube}
 use Rattle.tube.specs.Part.{part}
 use Rattle.tube.specs.Write.{four, sectioned, tube_of, size_of}
-use Rattle.tube.specs.Read.{section, count_at, value, parsed, bind}
-use Rattle.tube.specs.Form.{Ranged, placed, ReadsBack}
+use Rattle.tube.specs.Read.{section, count_at, value, bind}
+use Rattle.tube.specs.Form.{Ranged, ReadsBack}
 use Rattle.tube.proofs.Past.{by_tests}
 
 -- a section that stands after so many bytes

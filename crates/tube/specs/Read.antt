@@ -1,5 +1,5 @@
 -- Reading a tube: its five sections in order, then nothing more. The first wrong form is told by section and place.
-use Rattle.std.specs.Prelude.{ℕ, ◌+◌, ◌*◌, ◌≤◌, Bool, true, false, cond, not, ◌&&◌, List, [], ◌∷◌, length, Ok, Err, fold, Result, ◌==◌, nat_le, slice_index}
+use Rattle.std.specs.Prelude.{ℕ, ◌+◌, ◌*◌, ◌≤◌, cond, not, ◌&&◌, List, [], ◌∷◌, length, Ok, Err, fold, Result, ◌==◌, nat_le, slice_index}
 use Rattle.refusal.specs.Cause.{Cause, first, unless}
 use Rattle.tube.specs.declared.fault.TubeFault.{TubeFault}
 use Rattle.tube.specs.declared.fault.TubeFault.TheVariants.{Form}

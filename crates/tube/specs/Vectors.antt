@@ -1,9 +1,7 @@
 -- Worked values: a tube with n = 6, t = 4, a = 2, m = 3 has 37 bytes. Without its last byte it is refused at section 5, place 33; with one
 -- byte more at section 6, place 37.
-use Rattle.std.specs.Prelude.{◌≡◌, ℕ, List, [], ◌∷◌, ◌++◌, length, take, Ok, Err, Result, refl}
-use Rattle.tube.specs.declared.fault.TubeFault.{TubeFault}
+use Rattle.std.specs.Prelude.{◌≡◌, ℕ, List, [], ◌∷◌, ◌++◌, length, take, Ok, Err, refl}
 use Rattle.tube.specs.declared.fault.TubeFault.TheVariants.{Form}
-use Rattle.tube.specs.declared.tube.Tube.{Tube}
 use Rattle.tube.specs.Write.{nonce_of, tube_of, size_of}
 use Rattle.tube.specs.Read.{parsed}
 

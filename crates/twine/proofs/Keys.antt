@@ -26,12 +26,12 @@ update_small wk con s t h lc ls lt =
     below_at 16 (omega arith) (next wk con s t)
     (a, (h 5, (h 6, (b, (h 8, (h 9, (h 10, (h 11, (h 12, (h 13, (h 14, (h 15, (h 16, (h 17, (h 18, (d, (e, (h 2, (h 3, (h 0, tt))))))))))))))))))))
 
-pub round-key-is :
+pub round_key_is :
     (wk : List ℕ) → Nibbles wk →
     Holds (round_key wk)
     (get_or wk 1 0 * 2 ^ 60 % 2 ^ 64 + get_or wk 3 0 * 2 ^ 52 % 2 ^ 64 + get_or wk 4 0 * 2 ^ 44 % 2 ^ 64 + get_or wk 6 0 * 2 ^ 36 % 2 ^ 64 + get_or wk 13 0 * 2 ^ 28 % 2 ^ 64
     + get_or wk 14 0 * 2 ^ 20 % 2 ^ 64 + get_or wk 15 0 * 2 ^ 12 % 2 ^ 64 + get_or wk 16 0 * 2 ^ 4 % 2 ^ 64)
-round-key-is wk h =
+round_key_is wk h =
     let w : ℕ → ℕ = λ i. get_or wk i 0 in
     let z : 0 < 16 = omega arith in
     let ys : List ℕ = w 1 ∷ 0 ∷ w 3 ∷ 0 ∷ w 4 ∷ 0 ∷ w 6 ∷ 0 ∷ w 13 ∷ 0 ∷ w 14 ∷ 0 ∷ w 15 ∷ 0 ∷ w 16 ∷ 0 ∷ [] in

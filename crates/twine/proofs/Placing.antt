@@ -11,25 +11,25 @@ nibble_xor : (x y t : ℕ) → bit_xor x y / 2 ^ t % 16 ≡ bit_xor (x / 2 ^ t %
 nibble_xor x y t = ap (λ v. v % 16) (xor_shr x y t) ∙ xor_mod (x / 2 ^ t) (y / 2 ^ t) 4
 
 -- a byte of x + key through the table, where the key's right nibble is 0
-mixed-xor :
+mixed_xor :
     (x key s : ℕ) → key / 2 ^ s % 16 ≡ 0 →
     mixed (bit_xor x key / 2 ^ s % 256) ≡ bit_xor (S (bit_xor (x / 2 ^ (s + 4) % 16) (key / 2 ^ (s + 4) % 16))) (x / 2 ^ s % 16)
 unfolding mixed
-mixed-xor x key s z =
+mixed_xor x key s z =
     let y : ℕ = bit_xor x key / 2 ^ s in
     let left : y % 256 / 16 ≡ y / 16 % 16 = omega arith in
     let right : y % 256 % 16 ≡ y % 16 = omega arith in
     ap₂ (λ u v. bit_xor (S u) v) (left ∙ ap (λ v. v % 16) (shr-shr (bit_xor x key) s 4) ∙ nibble_xor x key (s + 4))
     (right ∙ nibble_xor x key s ∙ ap (bit_xor (x / 2 ^ s % 16)) z ∙ xor_zero_r (x / 2 ^ s % 16))
 
-pub sums-are :
+pub sums_are :
     (x key : ℕ) → OddZero key → (b : List ℕ) → b ≡ octets (bit_xor x key) → each 8 (λ j. mixed (get_or b j 0)) ≡ odds (substituted (evens (split key)) (split x))
-sums-are x key odd b e =
+sums_are x key odd b e =
     let z : (j : ℕ) → get_or (odds (split key)) j 0 ≡ get_or (replicate 8 0) j 0 = λ j. ap (λ xs. get_or xs j 0) odd in
     let one : bit_xor x key % 256 ≡ bit_xor x key / 1 % 256 = omega arith in
     ap (λ xs. each 8 (λ j. mixed (get_or xs j 0))) e
-    ∙ eight_eq (mixed-xor x key 56 (z 0)) (mixed-xor x key 48 (z 1)) (mixed-xor x key 40 (z 2)) (mixed-xor x key 32 (z 3)) (mixed-xor x key 24 (z 4))
-    (mixed-xor x key 16 (z 5)) (mixed-xor x key 8 (z 6)) (ap mixed one ∙ mixed-xor x key 0 (z 7))
+    ∙ eight_eq (mixed_xor x key 56 (z 0)) (mixed_xor x key 48 (z 1)) (mixed_xor x key 40 (z 2)) (mixed_xor x key 32 (z 3)) (mixed_xor x key 24 (z 4))
+    (mixed_xor x key 16 (z 5)) (mixed_xor x key 8 (z 6)) (ap mixed one ∙ mixed_xor x key 0 (z 7))
 
 pub kept_is : (x : ℕ) (a : List ℕ) → a ≡ octets x → each 8 (λ j. get_or a j 0 / 16) ≡ evens (split x)
 kept_is x a e =
@@ -57,9 +57,9 @@ joined_is n e small =
 abbrev pub woven : List ℕ → List ℕ → List ℕ
 woven h m = each 16 (λ i. cond (eqb (i % 2) 0) (get_or h (i / 2) 0) (get_or m (i / 2) 0))
 
-pub woven-is :
+pub woven_is :
     (x key : ℕ) (h m : List ℕ) → h ≡ evens (split x) → m ≡ odds (substituted (evens (split key)) (split x)) → woven h m ≡ substituted (evens (split key)) (split x)
-woven-is x key h m eh em = ap₂ woven eh em
+woven_is x key h m eh em = ap₂ woven eh em
 
 module _ (h m : List ℕ) (H : Nibbles h) (M : Nibbles m) where
   pub woven_small : Nibbles (woven h m)

@@ -36,12 +36,12 @@ nibbles_small [] h = tt
 nibbles_small (x ∷ xs) h = let l = h.0 in (omega arith, (omega arith, nibbles_small xs h.1))
 
 -- a block as a state, and a state as a block
-pub state-of :
+pub state_of :
     (xs : List ℕ) → length xs ≡ 8 → AllBelow 256 (each 8 (λ i. get_or xs i 0)) → (v : ℕ) →
     v ≡ get_or xs 0 0 * 2 ^ 56 + get_or xs 1 0 * 2 ^ 48 + get_or xs 2 0 * 2 ^ 40 + get_or xs 3 0 * 2 ^ 32 + get_or xs 4 0 * 2 ^ 24 + get_or xs 5 0 * 2 ^ 16 + get_or xs 6 0 * 2 ^ 8 + get_or xs 7 0 →
     split v ≡ nibbles xs
 unfolding nibbles
-state-of xs e small v ev =
+state_of xs e small v ev =
     let ys : List ℕ = each 8 (λ i. get_or xs i 0) in
     split_is (nibbles ys) (below_at 16 (omega arith) (nibbles ys) (nibbles_small ys small)) v (omega arith) ∙ sym (ap nibbles (listed 8 xs e))
 

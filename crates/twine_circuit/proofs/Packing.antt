@@ -25,9 +25,9 @@ shifted v j i hv hj hi =
     ∙ e ∙ ap (λ n. each 8 (λ i. cond (eqb ((16 * j + v) / 16) i) n 0)) a ∙ ap (λ n. each 8 (λ i. cond (eqb n i) v 0)) b in
     each_at 8 (lane place (value 32 spreading v * 2 ^ j % 2 ^ 32)) (λ i. cond (eqb j i) v 0) f i hi
 
-pub packed-are :
+pub packed_are :
     (n : List ℕ) → length n ≡ 8 → Nibbles n → (x : ℕ) → x ≡ xors 7 (λ j. value 32 spreading (get_or n j 0) * 2 ^ j % 2 ^ 32) → lanes x ≡ n
-packed-are n e small x ex =
+packed_are n e small x ex =
     lanes_are place 8 x n e
     (λ i h. ap (λ y. lane place y i) ex
     ∙ filled place 7 (λ j. value 32 spreading (get_or n j 0) * 2 ^ j % 2 ^ 32) (λ j. get_or n j 0) (λ j k hj hk. shifted (get_or n j 0) j k (small j) (omega arith) (omega arith)) i (omega arith))
@@ -44,9 +44,9 @@ unfolding nibbles
 nibbles_small [] h = tt
 nibbles_small (x ∷ xs) h = let l = h.0 in (omega arith, (omega arith, nibbles_small xs h.1))
 
-pub eight-small :
+pub eight_small :
     {a b c d e f g h : ℕ} → a < 16 → b < 16 → c < 16 → d < 16 → e < 16 → f < 16 → g < 16 → h < 16 → Nibbles (a ∷ b ∷ c ∷ d ∷ e ∷ f ∷ g ∷ h ∷ [])
-eight-small {a} {b} {c} {d} {e} {f} {g} {h} p q r s t u v w = below_at 16 (omega arith) (a ∷ b ∷ c ∷ d ∷ e ∷ f ∷ g ∷ h ∷ []) (p, (q, (r, (s, (t, (u, (v, (w, tt))))))))
+eight_small {a} {b} {c} {d} {e} {f} {g} {h} p q r s t u v w = below_at 16 (omega arith) (a ∷ b ∷ c ∷ d ∷ e ∷ f ∷ g ∷ h ∷ []) (p, (q, (r, (s, (t, (u, (v, (w, tt))))))))
 
 -- the bytes of a state, from the lanes of its halves
 abbrev pub block : List ℕ → List ℕ → List ℕ

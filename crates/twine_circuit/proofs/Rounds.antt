@@ -6,7 +6,7 @@ use Rattle.bits.specs.Lanes.{lane, planes, gathered}
 use Rattle.bits.specs.Linear.{value}
 use Rattle.bits.specs.Nibbles.{each}
 use Rattle.bits.proofs.Everywhere.{everywhere}
-use Rattle.bits.proofs.Lanes.{Fit, Lifts, Is, four, found, wanted, substituted as lane-substituted, lane_xor, lanes-agree}
+use Rattle.bits.proofs.Lanes.{Fit, Lifts, Is, four, found, wanted, substituted as lane-substituted, lane_xor, lanes_agree}
 use Rattle.bits.proofs.Lift.{bits, lift_outs}
 use Rattle.bits.proofs.Listed.{sixteen_eq}
 use Rattle.twine_circuit.specs.declared.halves.Halves.{Halves}
@@ -42,11 +42,11 @@ across i = get_or (0 ∷ 5 ∷ 2 ∷ 7 ∷ 6 ∷ 3 ∷ 4 ∷ 1 ∷ []) i 0
 
 turned_lane : (x : ℕ) → x < 2 ^ 32 → (i : ℕ) → i < 8 → lane place (value 32 turning x) i ≡ lane place x (behind i)
 unfolding lane
-turned_lane = lanes-agree 32 8 place turning (λ i x. lane place x (behind i)) (λ i. lane_xor place (behind i)) refl
+turned_lane = lanes_agree 32 8 place turning (λ i x. lane place x (behind i)) (λ i. lane_xor place (behind i)) refl
 
 crossed_lane : (x : ℕ) → x < 2 ^ 32 → (i : ℕ) → i < 8 → lane place (value 32 crossing x) i ≡ lane place x (across i)
 unfolding lane
-crossed_lane = lanes-agree 32 8 place crossing (λ i x. lane place x (across i)) (λ i. lane_xor place (across i)) refl
+crossed_lane = lanes_agree 32 8 place crossing (λ i x. lane place x (across i)) (λ i. lane_xor place (across i)) refl
 
 across_small : (i : ℕ) → i < 8 → across i < 8
 across_small i h = let z : across i - 7 ≡ 0 = everywhere 0 8 (λ k. across k - 7) (λ k. 0) refl i h in omega arith

@@ -20,7 +20,7 @@ put_is a b c d {p} {q} {r} {s} e f g h =
 
 pub returns : goal.returns
 returns c =
-    put_is c.args.a c.args.b c.args.c c.args.d (c.copy-from-slice.ensures.after ∙ c.to-be-bytes.ensures ∙ bytes_is c.args.a)
-    (c.copy-from-slice-2.ensures.after ∙ c.to-be-bytes-2.ensures ∙ bytes_is c.args.b)
-    (c.copy-from-slice-3.ensures.after ∙ c.to-be-bytes-3.ensures ∙ bytes_is c.args.c)
-    (c.copy-from-slice-4.ensures.after ∙ c.to-be-bytes-4.ensures ∙ bytes_is c.args.d)
+    put_is c.args.a c.args.b c.args.c c.args.d (c.copy_from_slice.ensures.after ∙ c.to_be_bytes.ensures ∙ bytes_is c.args.a)
+    (c.copy_from_slice-2.ensures.after ∙ c.to_be_bytes-2.ensures ∙ bytes_is c.args.b)
+    (c.copy_from_slice-3.ensures.after ∙ c.to_be_bytes-3.ensures ∙ bytes_is c.args.c)
+    (c.copy_from_slice-4.ensures.after ∙ c.to_be_bytes-4.ensures ∙ bytes_is c.args.d)

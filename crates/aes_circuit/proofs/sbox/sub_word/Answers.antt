@@ -6,6 +6,6 @@ use Rattle.aes_circuit.proofs.sbox.sub_word.Goals as goal
 
 pub returns : goal.returns
 returns c =
-    let s = c.to-bytes-s.ensures ∙ c.sub-bytes.ensures ∙ ap SubBytes c.of-bytes.ensures in
-    c.from-be-bytes.ensures ∙ ap (λ l. pack (get_or l 0 0) (get_or l 1 0) (get_or l 2 0) (get_or l 3 0)) s
-    ∙ ap (λ l. pack (S (get_or l 0 0)) (S (get_or l 1 0)) (S (get_or l 2 0)) (S (get_or l 3 0))) (c.to-be-bytes.ensures ∙ bytes_is c.args.w)
+    let s = c.to_bytes-s.ensures ∙ c.sub_bytes.ensures ∙ ap SubBytes c.of_bytes.ensures in
+    c.from_be_bytes.ensures ∙ ap (λ l. pack (get_or l 0 0) (get_or l 1 0) (get_or l 2 0) (get_or l 3 0)) s
+    ∙ ap (λ l. pack (S (get_or l 0 0)) (S (get_or l 1 0)) (S (get_or l 2 0)) (S (get_or l 3 0))) (c.to_be_bytes.ensures ∙ bytes_is c.args.w)

@@ -5,5 +5,5 @@ use Rattle.aes_circuit.proofs.schedule.sub_rot_word.Goals as goal
 
 pub returns : goal.returns
 returns c =
-    c.sub-word.ensures
-    ∙ ap SubWord (c.from-be-bytes.ensures ∙ ap (λ l. pack (get_or l 1 0) (get_or l 2 0) (get_or l 3 0) (get_or l 0 0)) (c.to-be-bytes.ensures ∙ bytes_is c.args.w))
+    c.sub_word.ensures
+    ∙ ap SubWord (c.from_be_bytes.ensures ∙ ap (λ l. pack (get_or l 1 0) (get_or l 2 0) (get_or l 3 0) (get_or l 0 0)) (c.to_be_bytes.ensures ∙ bytes_is c.args.w))

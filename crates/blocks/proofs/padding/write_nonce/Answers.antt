@@ -3,4 +3,4 @@ use Rattle.blocks.proofs.Padded.{started}
 use Rattle.blocks.proofs.padding.write_nonce.Goals as goal
 
 pub returns : goal.returns
-returns c = started c.args.block.now c.fill.new.self c.args.nonce.now c.copy-from-slice.new.self c.args.param _ c.requires (c.fill.ensures.after (λ y e. e)) c.copy-from-slice.ensures.after (simp length-set (omega arith))
+returns c = started c.args.block.now c.fill.new.self c.args.nonce.now c.copy_from_slice.new.self c.args.param _ c.requires (c.fill.ensures.after (λ y e. e)) c.copy_from_slice.ensures.after (simp length-set (omega arith))

@@ -1,6 +1,5 @@
 use Rattle.std.proofs.Common.{get_or, set, sym, ap, ◌∙◌, arith}
 use lib.Bits.{bit_xor}
-use Rattle.blocks.specs.Blocks.{◌⊕◌}
 use Rattle.blocks.proofs.Xors.{xor_none, xor_more, xor_cut}
 use Rattle.blocks.proofs.padding.xor_into.Goals as goal
 

@@ -24,8 +24,8 @@ returns-then-text-eq0 g c =
       };
     }
 
-pub run-one-requires : goal.run-one-requires
-run-one-requires g c =
+pub run_one-requires : goal.run_one-requires
+run_one-requires g c =
     let b = g.C.Cipher.width c.args.cipher.now in
     let n = length c.args.text.now in
     let h : 0 < n = omega arith in
@@ -37,11 +37,11 @@ returns g c =
     let b = g.C.Cipher.width c.args.cipher.now in
     let E = g.C.Cipher.E c.args.cipher.now in
     let X = c.args.text.now in
-    let T = c.run-one.new.block in
+    let T = c.run_one.new.block in
     let h : 0 < length X = omega arith in
-    let len : length T ≡ b = c.run-one.auto.block ∙ c.requires.width in
+    let len : length T ≡ b = c.run_one.auto.block ∙ c.requires.width in
     record {
       answers = refl;
-      out = c.copy-from-slice.ensures.after ∙ c.split-at.ensures.front ∙ ap (take (length X)) c.xor-into.ensures ∙ xor_swap T X (omega arith) ∙ ap (λ Z. X ⊕ Z) c.run-one.ensures.block;
-      ran = ran_as (sym (parts_one b (length X) h c.requires.text)) c.run-one.ensures.ran;
+      out = c.copy_from_slice.ensures.after ∙ c.split_at.ensures.front ∙ ap (take (length X)) c.xor_into.ensures ∙ xor_swap T X (omega arith) ∙ ap (λ Z. X ⊕ Z) c.run_one.ensures.block;
+      ran = ran_as (sym (parts_one b (length X) h c.requires.text)) c.run_one.ensures.ran;
     }

@@ -1,4 +1,4 @@
-use Rattle.std.proofs.Common.{◌≡◌, ◌+◌, ◌-◌, ◌≤◌, ◌++◌, length, take, drop, sym, ap, ◌∙◌, arith, length-drop}
+use Rattle.std.proofs.Common.{◌+◌, ◌-◌, ◌≤◌, ◌++◌, length, take, drop, sym, ap, ◌∙◌, arith, length-drop}
 use Rattle.std.proofs.lemmas.Slice.{take-put_mid}
 use Rattle.cipher.specs.Left.{spent}
 use Rattle.blocks.specs.Blocks.{◌⊕◌, parts}
@@ -16,20 +16,20 @@ loop-rest-preserved g c =
     let hb = (width_bounds b (g.met.C.Cipher.widths c.args.cipher.now)).0 in
     let hl = g.met.C.Allowance.bounded c.loop-rest.cipher in
     let i = c.loop-rest.invariant in
-    let r = c.run-one.ensures.ran in
+    let r = c.run_one.ensures.ran in
     let X = c.loop-rest.rest.now in
     let V = c.loop-rest.state in
     let O = c.loop-rest.out in
     let k = c.loop-rest.done in
-    let P = c.decrypt-block.new.out in
+    let P = c.decrypt_block.new.out in
     let h : b ≤ length X = omega arith in
-    let f = c.split-at.ensures.front ∙ ap (λ m. take m X) c.requires.width in
-    let d = c.split-at.ensures.back ∙ ap (λ m. drop m X) c.requires.width in
-    let l = spent_block b (length X) (length c.split-at.result.1.now) _ _ hb h (ap length d ∙ length-drop b X) hl i.3 r.left in
-    let lp = ap length c.decrypt-block.ensures.out ∙ length_xor c.split-at.result.0.now c.run-one.new.block ∙ c.split-at.ensures.front-len in
+    let f = c.split_at.ensures.front ∙ ap (λ m. take m X) c.requires.width in
+    let d = c.split_at.ensures.back ∙ ap (λ m. drop m X) c.requires.width in
+    let l = spent_block b (length X) (length c.split_at.result.1.now) _ _ hb h (ap length d ∙ length-drop b X) hl i.3 r.left in
+    let lp = ap length c.decrypt_block.ensures.out ∙ length_xor c.split_at.result.0.now c.run_one.new.block ∙ c.split_at.ensures.front_len in
     let z = take-put_mid k _ O P (k + length c.args.state.now) (ap (λ m. k + m) (sym lp)) (omega arith) in
-    let o = dec_turn b E V c.decrypt-block.new.state X c.split-at.result.0.now c.split-at.result.1.now c.run-one.new.block P (take k O) _
-    hb h f d (c.run-one.ensures.block ∙ ap (λ q. q V) i.1) c.decrypt-block.ensures.out z c.decrypt-block.ensures.state in
+    let o = dec_turn b E V c.decrypt_block.new.state X c.split_at.result.0.now c.split_at.result.1.now c.run_one.new.block P (take k O) _
+    hb h f d (c.run_one.ensures.block ∙ ap (λ q. q V) i.1) c.decrypt_block.ensures.out z c.decrypt_block.ensures.state in
     (r.width ∙ i.0, r.same ∙ i.1, o ∙ i.2, l.0, l.1 ∙ i.4, omega arith)
 
 pub returns : goal.returns
@@ -38,16 +38,16 @@ returns g c =
     let E = g.C.Cipher.E c.args.cipher.now in
     let hb = (width_bounds b (g.met.C.Cipher.widths c.args.cipher.now)).0 in
     let i = c.loop-rest.invariant in
-    let r = c.crypt-last.ensures.ran in
+    let r = c.crypt_last.ensures.ran in
     let X = c.loop-rest.rest.now in
     let V = c.loop-rest.state in
     let O = c.loop-rest.out in
     let k = c.loop-rest.done in
     let left = g.C.Allowance.remaining c.loop-rest.cipher in
-    let p = c.crypt-last.ensures.out ∙ ap (λ q. X ⊕ q V) i.1 ∙ sym (dec_last b E V X hb (omega arith)) in
-    let o = written_last O c.crypt-last.new.out k (length O - k) (omega arith) ∙ ap (λ Z. take k O ++ Z) p ∙ i.2 in
+    let p = c.crypt_last.ensures.out ∙ ap (λ q. X ⊕ q V) i.1 ∙ sym (dec_last b E V X hb (omega arith)) in
+    let o = written_last O c.crypt_last.new.out k (length O - k) (omega arith) ∙ ap (λ Z. take k O ++ Z) p ∙ i.2 in
     record {
-      answers = c.crypt-last.ensures.answers;
+      answers = c.crypt_last.ensures.answers;
       out = o;
       undone = ap (enc b E c.args.state.now) o ∙ enc_dec b E hb c.args.state.now c.args.text.now;
       ran = record {

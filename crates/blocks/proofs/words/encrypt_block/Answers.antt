@@ -10,13 +10,13 @@ returns c =
     let l = c.requires.block in
     let o = c.requires.out in
     record {
-      out = c.store-words.ensures
+      out = c.store_words.ensures
           ∙ xor_stored (length c.args.out.now) X S (same_width o w) (l ∙ sym o) (sym o) _ _ _ _ _ _ _ _
-          c.load-word.ensures c.load-word-3.ensures c.load-word-5.ensures c.load-word-7.ensures
-          c.load-word-2.ensures c.load-word-4.ensures c.load-word-6.ensures c.load-word-8.ensures;
-      state = c.store-words-2.ensures
+          c.load_word.ensures c.load_word-3.ensures c.load_word-5.ensures c.load_word-7.ensures
+          c.load_word-2.ensures c.load_word-4.ensures c.load_word-6.ensures c.load_word-8.ensures;
+      state = c.store_words-2.ensures
           ∙ fix1_stored (length S) _ _ _ _ _ w
           (xor_stored (length S) X S w l refl _ _ _ _ _ _ _ _
-          c.load-word.ensures c.load-word-3.ensures c.load-word-5.ensures c.load-word-7.ensures
-          c.load-word-2.ensures c.load-word-4.ensures c.load-word-6.ensures c.load-word-8.ensures);
+          c.load_word.ensures c.load_word-3.ensures c.load_word-5.ensures c.load_word-7.ensures
+          c.load_word-2.ensures c.load_word-4.ensures c.load_word-6.ensures c.load_word-8.ensures);
     }

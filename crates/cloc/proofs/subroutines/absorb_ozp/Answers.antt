@@ -6,13 +6,13 @@ use Rattle.blocks.proofs.Cuts.{last_drop}
 use Rattle.blocks.proofs.Spends.{width_bounds}
 use Rattle.cloc.proofs.subroutines.absorb_ozp.Goals as goal
 
-pub overflow-sub-text : goal.overflow-sub-text
-overflow-sub-text g c =
+pub overflow_sub-text : goal.overflow_sub-text
+overflow_sub-text g c =
     let b = g.C.Cipher.width c.args.cipher.now in
     let hb = (width_bounds b (g.met.C.Cipher.widths c.args.cipher.now)).0 in
     let T = c.args.text.now in
-    let a = c.in-ok-n.ensures.answers in
-    let m : c.in-ok-n.n ≡ length (last (blocks b T)) = cc in
+    let a = c.in_ok-n.ensures.answers in
+    let m : c.in_ok-n.n ≡ length (last (blocks b T)) = cc in
     omega (arith, (last_drop b T hb).0)
 
 pub returns : goal.returns
@@ -21,15 +21,15 @@ returns g c =
     let E = g.C.Cipher.E c.args.cipher.now in
     let hb = (width_bounds b (g.met.C.Cipher.widths c.args.cipher.now)).0 in
     let T = c.args.text.now in
-    let S = c.absorb-front.new.state in
-    let a = c.in-ok-n.ensures.answers in
-    let m : c.in-ok-n.n ≡ length (last (blocks b T)) = cc in
-    let l = c.split-at.ensures.back ∙ ap (λ k. drop (length T - k) T) m ∙ (last_drop b T hb).1 in
-    let s : length S ≡ b = c.absorb-front.auto.state ∙ c.requires.width in
+    let S = c.absorb_front.new.state in
+    let a = c.in_ok-n.ensures.answers in
+    let m : c.in_ok-n.n ≡ length (last (blocks b T)) = cc in
+    let l = c.split_at.ensures.back ∙ ap (λ k. drop (length T - k) T) m ∙ (last_drop b T hb).1 in
+    let s : length S ≡ b = c.absorb_front.auto.state ∙ c.requires.width in
     record {
-      answers = ap (λ k. Ok (eqb k (length c.xor-ozp.new.block))) m ∙ ap (λ k. Ok (eqb (length (last (blocks b T))) k)) (c.xor-ozp.auto.block ∙ s);
+      answers = ap (λ k. Ok (eqb k (length c.xor_ozp.new.block))) m ∙ ap (λ k. Ok (eqb (length (last (blocks b T))) k)) (c.xor_ozp.auto.block ∙ s);
       state =
-          c.xor-ozp.ensures ∙ ap (λ k. S ⊕ ozp k c.split-at.result.1.now) s ∙ ap (λ Z. Z ⊕ ozp b c.split-at.result.1.now) c.absorb-front.ensures.state
+          c.xor_ozp.ensures ∙ ap (λ k. S ⊕ ozp k c.split_at.result.1.now) s ∙ ap (λ Z. Z ⊕ ozp b c.split_at.result.1.now) c.absorb_front.ensures.state
           ∙ ap (λ Z. chain E c.args.state.now (front (blocks b T)) ⊕ ozp b Z) l;
-      ran = c.absorb-front.ensures.ran;
+      ran = c.absorb_front.ensures.ran;
     }

@@ -7,8 +7,8 @@ use Rattle.cloc.specs.Cloc.{is_full, SH1}
 use Rattle.cloc.specs.Forms.{at_width, runs_one, runs_more, hash_one, hash_more, padded_as}
 use Rattle.cloc.proofs.subroutines.hash_label.Goals as goal
 
-pub bind-nonce-requires : goal.bind-nonce-requires
-bind-nonce-requires g c =
+pub bind_nonce-requires : goal.bind_nonce-requires
+bind_nonce-requires g c =
     let s : length c.start.new.state ≡ g.C.Cipher.width c.args.cipher.now = c.start.auto.state ∙ c.requires.width in
     record { nonce = omega arith; width = at_width _ _ s (g.met.C.Cipher.widths c.args.cipher.now) }
 
@@ -26,34 +26,34 @@ returns-then-label-b g c =
     record {
       answers = refl;
       state =
-          hash_one b hb E c.args.param c.args.nonce.now A S c.bind-nonce.new.block full l c.start.ensures.state (ap (eqb (length A)) c.requires.width)
-          (c.bind-nonce.ensures ∙ ap (λ k. cond full (f1 (S ⊕ ozp k X)) (f2 (S ⊕ ozp k X))) s);
+          hash_one b hb E c.args.param c.args.nonce.now A S c.bind_nonce.new.block full l c.start.ensures.state (ap (eqb (length A)) c.requires.width)
+          (c.bind_nonce.ensures ∙ ap (λ k. cond full (f1 (S ⊕ ozp k X)) (f2 (S ⊕ ozp k X))) s);
       ran = ran_as (sym (runs_one b hb (length A) l)) c.start.ensures.ran;
     }
 
-pub run-one-requires : goal.run-one-requires
-run-one-requires g c =
+pub run_one-requires : goal.run_one-requires
+run_one-requires g c =
     let b = g.C.Cipher.width c.args.cipher.now in
     let hb = (width_bounds b (g.met.C.Cipher.widths c.args.cipher.now)).0 in
     let hl = g.met.C.Allowance.bounded c.args.cipher.now in
     let r1 = c.start-2.ensures.ran in
-    let r2 = c.absorb-ozp.ensures.ran in
+    let r2 = c.absorb_ozp.ensures.ran in
     let A = c.args.label.now in
-    let R = c.split-at.result.1.now in
+    let R = c.split_at.result.1.now in
     let l : b < length A = omega arith in
-    let d : R ≡ drop b A = c.split-at.ensures.back ∙ ap (λ k. drop k A) c.requires.width in
+    let d : R ≡ drop b A = c.split_at.ensures.back ∙ ap (λ k. drop k A) c.requires.width in
     let m = runs_more b hb (length A) (length R) l (ap length d ∙ length-drop b A) in
     let p = parts b (length R) in
     let r = ran_then 1 (p - 1) hl (omega arith) r1 (ran_as (ap (λ k. parts k (length R) - 1) r1.width) r2) in
     record {
-      width = c.absorb-ozp.auto.state ∙ c.start-2.auto.state ∙ c.requires.width ∙ sym r.width;
+      width = c.absorb_ozp.auto.state ∙ c.start-2.auto.state ∙ c.requires.width ∙ sym r.width;
       left = ran_left (1 + (p - 1)) 1 hl (omega arith) r;
     }
 
-pub bind-nonce-requires-2 : goal.bind-nonce-requires-2
-bind-nonce-requires-2 g c =
-    let s : length c.run-one.new.block ≡ g.C.Cipher.width c.args.cipher.now =
-    c.run-one.auto.block ∙ c.absorb-ozp.auto.state ∙ c.start-2.auto.state ∙ c.requires.width in
+pub bind_nonce-requires-2 : goal.bind_nonce-requires-2
+bind_nonce-requires-2 g c =
+    let s : length c.run_one.new.block ≡ g.C.Cipher.width c.args.cipher.now =
+    c.run_one.auto.block ∙ c.absorb_ozp.auto.state ∙ c.start-2.auto.state ∙ c.requires.width in
     record { nonce = omega arith; width = at_width _ _ s (g.met.C.Cipher.widths c.args.cipher.now) }
 
 pub returns : goal.returns
@@ -63,28 +63,28 @@ returns g c =
     let hb = (width_bounds b (g.met.C.Cipher.widths c.args.cipher.now)).0 in
     let hl = g.met.C.Allowance.bounded c.args.cipher.now in
     let r1 = c.start-2.ensures.ran in
-    let r2 = c.absorb-ozp.ensures.ran in
-    let r3 = c.run-one.ensures.ran in
+    let r2 = c.absorb_ozp.ensures.ran in
+    let r3 = c.run_one.ensures.ran in
     let A = c.args.label.now in
     let X = c.args.param ∷ c.args.nonce.now in
-    let R = c.split-at.result.1.now in
-    let S = c.run-one.new.block in
-    let full = c.in-ok-full.full in
+    let R = c.split_at.result.1.now in
+    let S = c.run_one.new.block in
+    let full = c.in_ok-full.full in
     let l : b < length A = omega arith in
-    let d : R ≡ drop b A = c.split-at.ensures.back ∙ ap (λ k. drop k A) c.requires.width in
-    let a : c.split-at.result.0.now ≡ take b A = c.split-at.ensures.front ∙ ap (λ k. take k A) c.requires.width in
+    let d : R ≡ drop b A = c.split_at.ensures.back ∙ ap (λ k. drop k A) c.requires.width in
+    let a : c.split_at.result.0.now ≡ take b A = c.split_at.ensures.front ∙ ap (λ k. take k A) c.requires.width in
     let m = runs_more b hb (length A) (length R) l (ap length d ∙ length-drop b A) in
     let p = parts b (length R) in
     let r = ran_then 1 (p - 1) hl (omega arith) r1 (ran_as (ap (λ k. parts k (length R) - 1) r1.width) r2) in
-    let z = padded_as b _ E _ _ _ R _ r1.width r1.same c.start-2.ensures.state c.absorb-ozp.ensures.state in
-    let s = c.run-one.ensures.block ∙ ap (λ e. e c.absorb-ozp.new.state) r.same ∙ ap E z in
-    let o = c.in-ok-full.ensures.answers in
+    let z = padded_as b _ E _ _ _ R _ r1.width r1.same c.start-2.ensures.state c.absorb_ozp.ensures.state in
+    let s = c.run_one.ensures.block ∙ ap (λ e. e c.absorb_ozp.new.state) r.same ∙ ap E z in
+    let o = c.in_ok-full.ensures.answers in
     let f : full ≡ is_full (g.C.Cipher.width c.start-2.new.cipher) (last (blocks (g.C.Cipher.width c.start-2.new.cipher) R)) = cc in
-    let n : length S ≡ b = c.run-one.auto.block ∙ c.absorb-ozp.auto.state ∙ c.start-2.auto.state ∙ c.requires.width in
+    let n : length S ≡ b = c.run_one.auto.block ∙ c.absorb_ozp.auto.state ∙ c.start-2.auto.state ∙ c.requires.width in
     record {
       answers = refl;
       state =
-          hash_more b hb E c.args.param c.args.nonce.now A c.split-at.result.0.now R S c.bind-nonce-2.new.block full l a d s
-          (f ∙ ap (λ k. is_full k (last (blocks k R))) r1.width) (c.bind-nonce-2.ensures ∙ ap (λ k. cond full (f1 (S ⊕ ozp k X)) (f2 (S ⊕ ozp k X))) n);
+          hash_more b hb E c.args.param c.args.nonce.now A c.split_at.result.0.now R S c.bind_nonce-2.new.block full l a d s
+          (f ∙ ap (λ k. is_full k (last (blocks k R))) r1.width) (c.bind_nonce-2.ensures ∙ ap (λ k. cond full (f1 (S ⊕ ozp k X)) (f2 (S ⊕ ozp k X))) n);
       ran = ran_as (let e : 1 + (p - 1) + 1 ≡ max 1 (parts b (length A)) = omega arith in e) (ran_then (1 + (p - 1)) 1 hl (omega arith) r r3);
     }

@@ -39,33 +39,33 @@ returns g c =
     let law = g.met.S.Mode.lawful c.args.sender.now in
     let read-law = g.met.R.Mode.lawful c.args.receiver.now in
     let good = all_good sm rm s law read-law start sl low sbound bytes W K T in
-    let did = c.receive-all-end.ensures in
-    let wire' = c.send-all.new.wire in
-    let out' = c.receive-all-end.new.out in
-    let L = take (length calls) c.receive-all-end.new.lines in
-    let run : Run rm s floor rl (trace wire' out' L) (state_in c.receive-all-end.result) (g.R.Allowance.remaining c.receive-all-end.new.mode)
+    let did = c.receive_all-end.ensures in
+    let wire' = c.send_all.new.wire in
+    let out' = c.receive_all-end.new.out in
+    let L = take (length calls) c.receive_all-end.new.lines in
+    let run : Run rm s floor rl (trace wire' out' L) (state_in c.receive_all-end.result) (g.R.Allowance.remaining c.receive_all-end.new.mode)
     = did.runs s floor rl [] (made c.args.listening c.requires.fresh) in
     let pr = promise rm s floor rl _ _ _ read-law rbound run in
-    let lined : Lined (length wire') (length out) K false 0 L = subst (λ k. Lined (length wire') (length out) k false 0 L) c.send-all.auto.work did.lined in
+    let lined : Lined (length wire') (length out) K false 0 L = subst (λ k. Lined (length wire') (length out) k false 0 L) c.send_all.auto.work did.lined in
     record {
       whole = record {
         sends = record {
-          recorded = c.send-all.ensures.lines ∙ ap (λ p. p.lines ++ drop (length orders) c.args.sent.now) eP;
-          wired = c.send-all.ensures.wire ∙ ap (λ p. bytes_of p.tubes ++ drop (length (bytes_of p.tubes)) wire) eP;
+          recorded = c.send_all.ensures.lines ∙ ap (λ p. p.lines ++ drop (length orders) c.args.sent.now) eP;
+          wired = c.send_all.ensures.wire ∙ ap (λ p. bytes_of p.tubes ++ drop (length (bytes_of p.tubes)) wire) eP;
           numbered = good.numbered;
           carried = each_map (Holds sm rm s law read-law start sl low sbound) (λ x. Carries sm s x.number x.label x.contents x.tube) P.tubes (λ x h. h.carried) good.each;
-          runs = subst (λ n. Counted sl (runs_of P.tubes) n) (sym (c.send-all.ensures.left ∙ ap (λ p. p.left) eP)) good.runs;
+          runs = subst (λ n. Counted sl (runs_of P.tubes) n) (sym (c.send_all.ensures.left ∙ ap (λ p. p.left) eP)) good.runs;
         };
         receives = record {
           asked = did.asked;
           lined = lined;
           beyond = did.kept;
           promised = pr;
-          written = out_whole (reach 0 L) out out' _ (hands_all wire' out' (length wire') (length out) K L false 0 [] lined refl) (omega (arith, did.fits, c.receive-all-end.auto.out)) did.rest;
+          written = out_whole (reach 0 L) out out' _ (hands_all wire' out' (length wire') (length out) K L false 0 [] lined refl) (omega (arith, did.fits, c.receive_all-end.auto.out)) did.rest;
         };
-        worked = did.work ∙ ap (work_after_receives L) (c.send-all.ensures.work ∙ ap (λ p. work_after_sends p.lines work) eP);
+        worked = did.work ∙ ap (work_after_receives L) (c.send_all.ensures.work ∙ ap (λ p. work_after_sends p.lines work) eP);
         joined = λ agree. each_map (Holds sm rm s law read-law start sl low sbound) (λ x. Delivers rm s floor rl x (trace wire' out' L)) P.tubes
             (λ x h. delivers sm rm s law read-law start sl low sbound agree floor rl x (trace wire' out' L) pr.each h) good.each;
       };
-      same = (c.send-all.ensures.same, did.same);
+      same = (c.send_all.ensures.same, did.same);
     }

@@ -7,12 +7,12 @@ use Rattle.exchange.proofs.Cuts.{part_is, front_long, front_back}
 use Rattle.exchange.proofs.Lines.{leads_from, fits_from, work_from}
 use Rattle.exchange.proofs.receives.attempt.Goals as goal
 
-pub returns-then-not-open-lies : goal.returns-then-not-open-lies
-returns-then-not-open-lies g c =
+pub returns-then-not-open_lies : goal.returns-then-not-open_lies
+returns-then-not-open_lies g c =
     record {
       same = refl;
       runs = λ s floor start past r. r;
-      lined = sym c.open-lies.ensures.is ∙ c.if-not-open-lies.true;
+      lined = sym c.open_lies.ensures.is ∙ c.if-not-open_lies.true;
       held = refl;
       fits = omega (arith, c.requires);
       front = refl;
@@ -27,8 +27,8 @@ returns g c =
     let work = c.args.work.now in
     let out = c.args.out.now in
     let used = c.args.used in
-    let h = c.open-lies.ensures.parts c.if-not-open-lies.false in
-    let yes : admits (length wire) (length out - used) (length work) false (Open o) ≡ true = sym c.open-lies.ensures.is ∙ c.if-not-open-lies.false in
+    let h = c.open_lies.ensures.parts c.if-not-open_lies.false in
+    let yes : admits (length wire) (length out - used) (length work) false (Open o) ≡ true = sym c.open_lies.ensures.is ∙ c.if-not-open_lies.false in
     let r = c.tried.result.1 in
     let placed = c.tried.ensures.placed in
     record {

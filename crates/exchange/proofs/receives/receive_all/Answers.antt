@@ -35,7 +35,7 @@ loop-i-preserved g c =
     let ll : i < length lines = omega (arith, c.min-n.ensures, c.loop-i.auto.lines) in
     let items : take (i + 1) (set lines i x) ≡ L ++ x ∷ [] = take_more_set lines i x ll in
     let fit = fits_same W O (length c.loop-i.out) K (length c.loop-i.work) (held_by held L) (holds c.loop-i.end) (reach 0 L) used call o c.loop-i.auto.out c.loop-i.auto.work inv.3 inv.5 did.lined in
-    let size = c.size-of-used.ensures in (
+    let size = c.size_of-used.ensures in (
       did.same ∙ inv.0,
       ap (map call_in) items ∙ map_push call_in L x ∙ ap (λ l. l ++ call ∷ []) inv.1 ∙ sym (take_more calls i none lc),
       subst (λ l. LeadsAll m c.args.wire.now c.step-next.new.out (state_in c.args.end) (g.M.Allowance.remaining c.args.mode.now) l (state_in c.step-next.result.0) (g.M.Allowance.remaining c.step-next.new.mode)) (sym items)

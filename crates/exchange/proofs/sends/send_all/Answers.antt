@@ -48,22 +48,22 @@ loop-i-preserved g c =
     subst (λ q. After bP VP P o q)
     (sym (fold_more (λ q x. ordered m s bytes W K q x) (record { next = c.args.end.now.next; left = left; tubes = []; lines = [] }) orders i none lt))
     (after bP VP P o (label_of bytes o) (contents_of bytes o)) in
-    let did = c.send-one-outcome.ensures in
-    let len = c.length-of-used.result in
-    let el = c.length-of-used.ensures ∙ did.long in
-    let x : SendLine = record { order = o; outcome = c.send-one-outcome.result } in
+    let did = c.send_one-outcome.ensures in
+    let len = c.length_of-used.result in
+    let el = c.length_of-used.ensures ∙ did.long in
+    let x : SendLine = record { order = o; outcome = c.send_one-outcome.result } in
     let items = take_more_set c.loop-i.lines i x ll in (
       did.same ∙ inv.0,
       did.kept ∙ inv.1,
       turn_next bL bP VL VP eb ev P Q o h k' _ inv.2 did.next,
       turn_left bL bP VL VP eb ev P Q o h left' _ inv.3 did.left,
       turn_used bL bP VL VP eb ev P Q o h used len inv.4 el,
-      turn_wire bL bP VL VP eb ev P Q o h used len c.loop-i.wire c.send-one-outcome.new.wire c.args.wire.now inv.4 el inv.5 did.wire,
+      turn_wire bL bP VL VP eb ev P Q o h used len c.loop-i.wire c.send_one-outcome.new.wire c.args.wire.now inv.4 el inv.5 did.wire,
       items ∙ ap (λ l. l ++ x ∷ []) inv.6
           ∙ ap (λ r. P.lines ++ (record { order = o; outcome = r } ∷ [])) (did.came ∙ same_outcome bL bP VL VP eb ev) ∙ sym h.lines,
       drop-set-lt (i + 1) c.loop-i.lines i x (omega arith) ∙ drop_past i c.loop-i.lines c.args.lines.now inv.7,
-      omega (arith, c.length-of-used.ensures, did.fits, c.loop-i.auto.wire),
-      did.work ∙ ap (work_by c.send-one-outcome.result o.work) inv.9
+      omega (arith, c.length_of-used.ensures, did.fits, c.loop-i.auto.wire),
+      did.work ∙ ap (work_by c.send_one-outcome.result o.work) inv.9
           ∙ sym (fold_push (λ w (y : SendLine). send_work w y) c.args.work.now (take i c.loop-i.lines) x) ∙ ap (λ l. work_after_sends l c.args.work.now) (sym items),
     )
 

@@ -9,9 +9,9 @@ use Rattle.exchange.proofs.Cuts.{part_long, front_long, front_back}
 use Rattle.exchange.proofs.Orders.{laid_sent, sent_long, sent_room, laid_passed, long_passed, work_called}
 use Rattle.exchange.proofs.sends.send_one.Goals as goal
 
-pub returns-then-not-order-lies : goal.returns-then-not-order-lies
-returns-then-not-order-lies g c =
-    let f : lies (length c.args.bytes.now) (length c.args.wire.now - c.args.used) (length c.args.work.now) c.args.order ≡ false = sym c.order-lies.ensures.is ∙ c.if-not-order-lies.true in
+pub returns-then-not-order_lies : goal.returns-then-not-order_lies
+returns-then-not-order_lies g c =
+    let f : lies (length c.args.bytes.now) (length c.args.wire.now - c.args.used) (length c.args.work.now) c.args.order ≡ false = sym c.order_lies.ensures.is ∙ c.if-not-order_lies.true in
     record {
       came = sym (cond-false _ _ Passed f);
       wire = laid_passed _ _ c.args.used c.args.wire.now f;
@@ -38,19 +38,19 @@ returns g c =
     let wire = c.args.wire.now in
     let work = c.args.work.now in
     let b = lies (length bytes) (length wire - used) (length work) o in
-    let t : b ≡ true = sym c.order-lies.ensures.is ∙ c.if-not-order-lies.false in
-    let h = c.order-lies.ensures.parts c.if-not-order-lies.false in
+    let t : b ≡ true = sym c.order_lies.ensures.is ∙ c.if-not-order_lies.false in
+    let h = c.order_lies.ensures.parts c.if-not-order_lies.false in
     let room : used + o.room ≤ length wire = omega (arith, h.2, c.requires) in
     let er : used + o.room - used ≡ o.room = omega arith in
     let part = take (used + o.room - used) (drop used wire) in
     let lw : length part ≡ o.room = part_long used o.room wire room in
     let lk : length (take (o.work - 0) work) ≡ o.work = front_long o.work work h.3 in
     let V = verdict_to m left s k bytes o in
-    let A' = c.bytes-at-label.result.now in
-    let M' = c.bytes-at-contents.result.now in
+    let A' = c.bytes_at-label.result.now in
+    let M' = c.bytes_at-contents.result.now in
     let ev : send_verdict m left s k A' M' (length part) (length (take (o.work - 0) work)) ≡ V =
-    ap (λ x. send_verdict m left s k x M' (length part) (length (take (o.work - 0) work))) c.bytes-at-label.ensures
-    ∙ ap (λ x. send_verdict m left s k A x (length part) (length (take (o.work - 0) work))) c.bytes-at-contents.ensures
+    ap (λ x. send_verdict m left s k x M' (length part) (length (take (o.work - 0) work))) c.bytes_at-label.ensures
+    ∙ ap (λ x. send_verdict m left s k A x (length part) (length (take (o.work - 0) work))) c.bytes_at-contents.ensures
     ∙ ap (λ x. send_verdict m left s k A M x (length (take (o.work - 0) work))) lw ∙ ap (λ x. send_verdict m left s k A M o.room x) lk in
     let ecame : c.said.result ≡ outcome_of V = c.said.ensures ∙ ap said_of (c.send-answer.ensures.answers ∙ ap send_answer ev) in
     let etube : tube_in V ≡ cond b (tube_in V) [] = sym (cond-true b _ _ t) in

@@ -6,4 +6,4 @@ use Rattle.led.proofs.subkeys.first.Goals as goal
 pub returns : goal.returns
 returns c =
     let e : length c.args.key.now ≡ 10 = search rules in
-    c.of-bytes.ensures ∙ sym (ap K1 (listed 10 c.args.key.now e))
+    c.of_bytes.ensures ∙ sym (ap K1 (listed 10 c.args.key.now e))

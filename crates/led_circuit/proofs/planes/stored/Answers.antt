@@ -9,6 +9,6 @@ swapped y = bit_xor (bit_and y 0x0f0f_0f0f_0f0f_0f0f * 2 ^ 4 % 2 ^ 64) (bit_and 
 
 pub returns : goal.returns
 returns c =
-    c.to-le-bytes.ensures
-    ∙ stored_is c.args.x (swapped c.delta-swap-y.result) (omega arith)
-    (ap swapped (c.delta-swap-y.ensures ∙ ap (value 64 (exchange 3 0x0a0a_0a0a_0a0a_0a0a)) c.delta-swap.ensures))
+    c.to_le_bytes.ensures
+    ∙ stored_is c.args.x (swapped c.delta_swap-y.result) (omega arith)
+    (ap swapped (c.delta_swap-y.ensures ∙ ap (value 64 (exchange 3 0x0a0a_0a0a_0a0a_0a0a)) c.delta_swap.ensures))

@@ -8,6 +8,6 @@ use Rattle.led_circuit.proofs.rounds.round.Goals as goal
 pub returns : goal.returns
 unfolding round
 returns c =
-    ap cells (c.mixed-columns.ensures ∙ ap (value 64 mixing) c.shifted-rows.ensures) ∙ linear_layers c.sub-cells.result (omega arith)
+    ap cells (c.mixed_columns.ensures ∙ ap (value 64 mixing) c.shifted_rows.ensures) ∙ linear_layers c.sub_cells.result (omega arith)
     ∙ ap (λ m. MixColumnsSerial (ShiftRows m))
-    (c.sub-cells.ensures ∙ ap SubCells (c.plus.ensures ∙ ap (λ k. addRoundKey k (cells c.args.x)) c.round-constants.ensures))
+    (c.sub_cells.ensures ∙ ap SubCells (c.plus.ensures ∙ ap (λ k. addRoundKey k (cells c.args.x)) c.round_constants.ensures))

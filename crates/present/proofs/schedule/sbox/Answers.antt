@@ -3,4 +3,4 @@ use Rattle.present.proofs.LayerBits.{nibble_is}
 use Rattle.present.proofs.schedule.sbox.Goals as goal
 
 pub returns : goal.returns
-returns c = record { is = ap (λ n. n % 16) c.sboxes-1-apart.ensures ∙ nibble_is c.args.word c.requires; small = omega arith }
+returns c = record { is = ap (λ n. n % 16) c.sboxes_1_apart.ensures ∙ nibble_is c.args.word c.requires; small = omega arith }

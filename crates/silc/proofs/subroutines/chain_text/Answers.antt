@@ -15,16 +15,16 @@ returns g c =
     let hb = (width_bounds b (g.met.C.Cipher.widths c.args.cipher.now)).0 in
     let S = c.args.state.now in
     let X = c.args.text.now in
-    let r = c.run-one.ensures.ran in
-    let l : length c.absorb.new.state ≡ b = c.absorb.auto.state ∙ c.run-one.auto.block ∙ c.requires.width in
+    let r = c.run_one.ensures.ran in
+    let l : length c.absorb.new.state ≡ b = c.absorb.auto.state ∙ c.run_one.auto.block ∙ c.requires.width in
     let a : c.absorb.new.state ≡ chained b E (E S) X =
     c.absorb.ensures.state
-    ∙ ap (λ e. chain e c.run-one.new.block (blocks (g.C.Cipher.width c.run-one.new.cipher) X)) r.same
-    ∙ ap (λ k. chain E c.run-one.new.block (blocks k X)) r.width
-    ∙ ap (λ Z. chain E Z (blocks b X)) c.run-one.ensures.block
+    ∙ ap (λ e. chain e c.run_one.new.block (blocks (g.C.Cipher.width c.run_one.new.cipher) X)) r.same
+    ∙ ap (λ k. chain E c.run_one.new.block (blocks k X)) r.width
+    ∙ ap (λ Z. chain E Z (blocks b X)) c.run_one.ensures.block
     ∙ sym (chained_loop b E (E S) X hb) in
     record {
       answers = refl;
-      state = c.apply-g.ensures ∙ ap tweaked (c.xor-length.ensures ∙ ap (λ k. c.absorb.new.state ⊕ Len k X) l ∙ ap (λ Z. Z ⊕ Len b X) a);
+      state = c.apply_g.ensures ∙ ap tweaked (c.xor_length.ensures ∙ ap (λ k. c.absorb.new.state ⊕ Len k X) l ∙ ap (λ Z. Z ⊕ Len b X) a);
       ran = ran_then 1 (parts b (length X)) (g.met.C.Allowance.bounded c.args.cipher.now) c.requires.left r (ran_as (ap (λ k. parts k (length X)) r.width) c.absorb.ensures.ran);
     }

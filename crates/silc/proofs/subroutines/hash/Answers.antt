@@ -12,8 +12,8 @@ returns g c =
     let E = g.C.Cipher.E c.args.cipher.now in
     let A = c.args.label.now in
     record {
-      answers = c.chain-text.ensures.answers;
-      state = c.chain-text.ensures.state
-          ∙ ap (λ Z. tweaked (chained b E (E Z) A ⊕ Len b A)) (c.write-nonce.ensures ∙ ap (λ k. zpp k (c.args.param ∷ c.args.nonce.now)) c.requires.width);
-      ran = c.chain-text.ensures.ran;
+      answers = c.chain_text.ensures.answers;
+      state = c.chain_text.ensures.state
+          ∙ ap (λ Z. tweaked (chained b E (E Z) A ⊕ Len b A)) (c.write_nonce.ensures ∙ ap (λ k. zpp k (c.args.param ∷ c.args.nonce.now)) c.requires.width);
+      ran = c.chain_text.ensures.ran;
     }

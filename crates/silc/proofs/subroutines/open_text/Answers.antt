@@ -14,8 +14,8 @@ returns-then-not-same g c =
     let C = c.args.ciphertext.now in
     let T = c.args.tag.now in
     let p = parts b (length C) in
-    let u = c.split-at.ensures.front ∙ c.prf.ensures.state (length T) ∙ ap (λ Z. PRF b E (length T) Z C) c.copy-from-slice.ensures.after in
-    let y : bytes_eq T (PRF b E (length T) V C) ≡ false = ap (bytes_eq T) (sym u) ∙ sym c.same-bytes-same.ensures ∙ c.if-not-same.true in
+    let u = c.split_at.ensures.front ∙ c.prf.ensures.state (length T) ∙ ap (λ Z. PRF b E (length T) Z C) c.copy_from_slice.ensures.after in
+    let y : bytes_eq T (PRF b E (length T) V C) ≡ false = ap (bytes_eq T) (sym u) ∙ sym c.same_bytes-same.ensures ∙ c.if-not-same.true in
     record {
       answers = ap Ok (sym y);
       out = sym (ap (λ z. cond z (DEC b E V C) c.args.out.now) y);
@@ -31,8 +31,8 @@ returns g c =
     let T = c.args.tag.now in
     let p = parts b (length C) in
     let r = c.prf.ensures.ran in
-    let u = c.split-at.ensures.front ∙ c.prf.ensures.state (length T) ∙ ap (λ Z. PRF b E (length T) Z C) c.copy-from-slice.ensures.after in
-    let y : bytes_eq T (PRF b E (length T) V C) ≡ true = ap (bytes_eq T) (sym u) ∙ sym c.same-bytes-same.ensures ∙ c.if-not-same.false in
+    let u = c.split_at.ensures.front ∙ c.prf.ensures.state (length T) ∙ ap (λ Z. PRF b E (length T) Z C) c.copy_from_slice.ensures.after in
+    let y : bytes_eq T (PRF b E (length T) V C) ≡ true = ap (bytes_eq T) (sym u) ∙ sym c.same_bytes-same.ensures ∙ c.if-not-same.false in
     record {
       answers = ap Ok (sym y);
       out = c.decrypt.ensures.out ∙ moved (λ k e Z. DEC k e Z C) b (g.C.Cipher.width c.prf.new.cipher) E (g.C.Cipher.E c.prf.new.cipher) V V r.width r.same refl

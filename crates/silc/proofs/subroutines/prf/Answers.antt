@@ -13,11 +13,11 @@ returns g c =
     let E = g.C.Cipher.E c.args.cipher.now in
     let C = c.args.text.now in
     let p = parts b (length C) in
-    let r = c.chain-text.ensures.ran in
+    let r = c.chain_text.ensures.ran in
     record {
-      answers = c.run-one.ensures.answers;
+      answers = c.run_one.ensures.answers;
       state = λ t. ap (msb t)
-          (c.run-one.ensures.block ∙ ap (λ e. e c.chain-text.new.state) r.same
-          ∙ ap E (c.chain-text.ensures.state ∙ ap (λ Z. tweaked (chained b E (E Z) C ⊕ Len b C)) c.apply-g.ensures));
-      ran = ran_as (let q : 1 + p + 1 ≡ 2 + p = omega arith in q) (ran_then (1 + p) 1 (g.met.C.Allowance.bounded c.args.cipher.now) (omega arith) r c.run-one.ensures.ran);
+          (c.run_one.ensures.block ∙ ap (λ e. e c.chain_text.new.state) r.same
+          ∙ ap E (c.chain_text.ensures.state ∙ ap (λ Z. tweaked (chained b E (E Z) C ⊕ Len b C)) c.apply_g.ensures));
+      ran = ran_as (let q : 1 + p + 1 ≡ 2 + p = omega arith in q) (ran_then (1 + p) 1 (g.met.C.Allowance.bounded c.args.cipher.now) (omega arith) r c.run_one.ensures.ran);
     }

@@ -15,12 +15,12 @@ returns g c =
     let C = c.encrypt.new.out in
     let p = parts b (length M) in
     let r = c.encrypt.ensures.ran in
-    let o : C ≡ ENC b E V M = c.encrypt.ensures.out ∙ ap (λ Z. ENC b E Z M) c.copy-from-slice.ensures.after in
+    let o : C ≡ ENC b E V M = c.encrypt.ensures.out ∙ ap (λ Z. ENC b E Z M) c.copy_from_slice.ensures.after in
     let l : length C ≡ length M = c.encrypt.auto.out ∙ c.requires.out in
     record {
       answers = refl;
       out = o;
-      tag = c.copy-msb.ensures ∙ c.prf.ensures.state t
+      tag = c.copy_msb.ensures ∙ c.prf.ensures.state t
           ∙ moved (λ k e Z. PRF k e t V Z) b (g.C.Cipher.width c.encrypt.new.cipher) E (g.C.Cipher.E c.encrypt.new.cipher) (ENC b E V M) C r.width r.same o;
       ran = ran_as (let n : p + (2 + p) ≡ 2 + 2 * p = omega arith in n)
           (ran_then p (2 + p) (g.met.C.Allowance.bounded c.args.cipher.now) (omega arith) r

@@ -1,4 +1,4 @@
-use Rattle.std.proofs.Common.{◌≡◌, ℕ, ◌+◌, ◌*◌, ◌^◌, ◌<◌, ◌≤◌, get_or, take, sym, refl, ap, ◌∙◌, subst, arith, pow-add}
+use Rattle.std.proofs.Common.{◌≡◌, ℕ, ◌+◌, ◌*◌, ◌^◌, ◌<◌, ◌≤◌, get_or, sym, ap, ◌∙◌, arith, pow-add}
 use native.Mathlib.Nat.{pow-le-pow_right}
 use Rattle.std.proofs.lemmas.List.{take_all}
 use Rattle.std.proofs.lemmas.List.Sums.{fold_more}
@@ -12,11 +12,11 @@ eight i = let e : 8 * (i + 1) ≡ 8 * i + 8 = omega arith in ap (λ x. 2 ^ x) e 
 low : (i : ℕ) → i < 16 → 2 ^ (8 * i) ≤ 2 ^ 120
 low i h = let l : 8 * i ≤ 120 = omega arith in let z : 0 < 2 = omega arith in pow-le-pow_right z l
 
-pub overflow-mul-sum : goal.overflow-mul-sum
-overflow-mul-sum c = omega (arith, c.loop-b.invariant.1, low c.loop-b.b-index (omega arith))
+pub overflow_mul-sum : goal.overflow_mul-sum
+overflow_mul-sum c = omega (arith, c.loop-b.invariant.1, low c.loop-b.b-index (omega arith))
 
-pub overflow-add-sum : goal.overflow-add-sum
-overflow-add-sum c = omega (arith, c.loop-b.invariant.1, low c.loop-b.b-index (omega arith))
+pub overflow_add-sum : goal.overflow_add-sum
+overflow_add-sum c = omega (arith, c.loop-b.invariant.1, low c.loop-b.b-index (omega arith))
 
 pub loop-b-preserved : goal.loop-b-preserved
 loop-b-preserved c = (

@@ -1,6 +1,5 @@
-use Rattle.std.proofs.Common.{◌≡◌, ℕ, ◌<◌, length, get_or, sym, refl, ◌∙◌, subst, arith}
-use Rattle.tube.specs.declared.tube.Tube.{Tube}
-use Rattle.tube.specs.Read.{Within, parsed}
+use Rattle.std.proofs.Common.{ℕ, ◌<◌, length, get_or, sym, ◌∙◌, arith}
+use Rattle.tube.specs.Read.{Within}
 use Rattle.tube.specs.Form.{Rewritten}
 use Rattle.tube.proofs.Past.{parsed_within, made_if}
 use Rattle.tube.proofs.Formed.{formed, parsed_rewritten}
@@ -8,7 +7,7 @@ use Rattle.tube.proofs.reading.read.Goals as goal
 
 pub returns : goal.returns
 returns c =
-    let byte : (i : ℕ) → get_or c.args.bytes.now i 0 < 256 = λ i. omega (arith, c.type-inv.bytes i) in
+    let byte : (i : ℕ) → get_or c.args.bytes.now i 0 < 256 = λ i. omega (arith, c.type_inv.bytes i) in
     record {
       value = c.parse.ensures;
       form = λ t. let f = formed c.args.bytes.now byte t in ((λ e. f.0 (sym c.parse.ensures ∙ e)), (λ r. c.parse.ensures ∙ f.1 r));

@@ -16,5 +16,5 @@ returns c =
     let size : 18 + length n + length a + m + 4 + length t ≡ size_of (length n) (length a) m (length t) = omega arith in
     record {
       answers = ap Some size ∙ sym (cond-true (fits (length n) (length a) m (length t) (length out)) (Some (size_of (length n) (length a) m (length t))) None f);
-      out = around c.args.code c.args.param n a m t out c.put-head.new.out c.put-section.new.out f c.put-head.ensures c.put-section.ensures;
+      out = around c.args.code c.args.param n a m t out c.put_head.new.out c.put_section.new.out f c.put_head.ensures c.put_section.ensures;
     }

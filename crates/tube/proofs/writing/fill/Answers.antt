@@ -5,6 +5,6 @@ use Rattle.tube.proofs.writing.fill.Goals as goal
 
 pub returns : goal.returns
 returns c = record {
-  bytes = c.fill-down.ensures;
-  back = λ h. ap value c.fill-down.ensures ∙ nonce_value (length c.args.bytes.now) c.args.number h;
+  bytes = c.fill_down.ensures;
+  back = λ h. ap value c.fill_down.ensures ∙ nonce_value (length c.args.bytes.now) c.args.number h;
 }

@@ -3,5 +3,5 @@ use Rattle.twine.proofs.round.kept.Goals as goal
 
 pub returns : goal.returns
 returns c =
-    let e = kept_is c.args.x c.to-be-bytes-a.result c.to-be-bytes-a.ensures in
+    let e = kept_is c.args.x c.to_be_bytes-a.result c.to_be_bytes-a.ensures in
     record { are = e; small = kept_small c.args.x _ e }

@@ -1,6 +1,6 @@
 use Rattle.std.proofs.Common.{ap, ◌∙◌}
 use Rattle.twine.specs.Twine.{permuted}
-use Rattle.twine.proofs.Placing.{woven-is, permuted_small}
+use Rattle.twine.proofs.Placing.{woven_is, permuted_small}
 use Rattle.twine.proofs.round.round.Goals as goal
 
 pub joined-requires : goal.joined-requires
@@ -9,4 +9,4 @@ joined-requires c = permuted_small c.kept-h.result c.sums-m.result c.kept-h.ensu
 pub returns : goal.returns
 returns c =
     c.joined.ensures
-    ∙ ap permuted (woven-is c.args.x c.args.key c.kept-h.result c.sums-m.result c.kept-h.ensures.are c.sums-m.ensures.are)
+    ∙ ap permuted (woven_is c.args.x c.args.key c.kept-h.result c.sums-m.result c.kept-h.ensures.are c.sums-m.ensures.are)

@@ -1,6 +1,6 @@
 use Rattle.std.proofs.Common.{ℕ, List, [], ◌∷◌, ◌∙◌, arith}
 use Rattle.bits.proofs.Listed.{AllBelow, below_at, eight_eq}
-use Rattle.twine.proofs.Placing.{sums-are}
+use Rattle.twine.proofs.Placing.{sums_are}
 use Rattle.twine.proofs.round.sums.Goals as goal
 
 pub returns : goal.returns
@@ -13,6 +13,6 @@ returns c =
     record {
       are =
           eight_eq c.mix.ensures.is c.mix-2.ensures.is c.mix-3.ensures.is c.mix-4.ensures.is c.mix-5.ensures.is c.mix-6.ensures.is c.mix-7.ensures.is c.mix-8.ensures.is
-          ∙ sums-are c.args.x c.args.key c.requires c.to-be-bytes-b.result c.to-be-bytes-b.ensures;
+          ∙ sums_are c.args.x c.args.key c.requires c.to_be_bytes-b.result c.to_be_bytes-b.ensures;
       small = below_at 16 (omega arith) m small;
     }

@@ -9,14 +9,14 @@ use Rattle.twine.proofs.schedule.schedule.Goals as goal
 pub loop-r-init : goal.loop-r-init
 loop-r-init c =
     let K = nibbles c.args.key.now in
-    let v : ℕ = c.round-key-keys.result in
+    let v : ℕ = c.round_key-keys.result in
     let e : c.register-wk.result ≡ WK K 0 = c.register-wk.ensures.is ∙ sym (register_none K) in (
       e,
       c.register-wk.ensures.small,
       search rules,
       refl,
       below_more (λ j. Holds (ResultKind K (suc j)) (get_or (replicate 36 v) j 0)) 0 (λ j h. absurd (omega arith))
-          (subst (λ w. Holds (round_key w) v) e c.round-key-keys.ensures),
+          (subst (λ w. Holds (round_key w) v) e c.round_key-keys.ensures),
     )
 
 pub loop-r-preserved : goal.loop-r-preserved

@@ -15,8 +15,8 @@ returns c =
     let key = c.args.self.now.key in
     let k1 = cells c.args.self.now.first in
     let k2 = cells c.args.self.now.second in
-    let m = c.of-bytes-x.ensures ∙ sym (ap nibbles (listed 8 c.args.block.now c.requires)) in
-    c.copy-from-slice.ensures.after ∙ c.to-bytes.ensures ∙ ap (bytes 8) c.encrypted.ensures
-    ∙ ap (λ k. result k k2 (cells c.of-bytes-x.result)) c.args.self.now.firsts
-    ∙ ap (λ k. result (K1 key) k (cells c.of-bytes-x.result)) c.args.self.now.seconds
+    let m = c.of_bytes-x.ensures ∙ sym (ap nibbles (listed 8 c.args.block.now c.requires)) in
+    c.copy_from_slice.ensures.after ∙ c.to_bytes.ensures ∙ ap (bytes 8) c.encrypted.ensures
+    ∙ ap (λ k. result k k2 (cells c.of_bytes-x.result)) c.args.self.now.firsts
+    ∙ ap (λ k. result (K1 key) k (cells c.of_bytes-x.result)) c.args.self.now.seconds
     ∙ ap (result (K1 key) (K2 key)) m

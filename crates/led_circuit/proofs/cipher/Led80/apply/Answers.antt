@@ -16,7 +16,7 @@ returns c =
     let k1 = cells c.args.self.now.first in
     let k2 = cells c.args.self.now.second in
     let m = c.loaded-x.ensures ∙ sym (ap nibbles (listed 8 c.args.block.now c.requires)) in
-    c.copy-from-slice.ensures.after ∙ c.stored.ensures ∙ ap (bytes 8) c.encrypted.ensures
+    c.copy_from_slice.ensures.after ∙ c.stored.ensures ∙ ap (bytes 8) c.encrypted.ensures
     ∙ ap (λ k. result k k2 (cells c.loaded-x.result)) c.args.self.now.firsts
     ∙ ap (λ k. result (K1 key) k (cells c.loaded-x.result)) c.args.self.now.seconds
     ∙ ap (result (K1 key) (K2 key)) m

@@ -6,18 +6,13 @@ use Rattle.ledger.proofs.ledger.Ledger.enter.Goals as goal
 pub entered-marks-requires : goal.entered-marks-requires
 entered-marks-requires c = open_near c.args.self.high c.args.self.marks c.args.number c.requires.1
 
-pub invariant-of-result : goal.invariant-of-result
-invariant-of-result c = (
-  (omega arith, omega arith),
-  (
-    subst (λ m. bit m 0 ≡ 1) (sym c.entered-marks.ensures) (marked_top c.args.self.high c.args.self.marks c.args.number c.args.self.top),
-    (
-      (λ i l b. subst (λ m. bit m i ≡ 1) (sym c.entered-marks.ensures)
-          (marked_below c.args.self.floor c.args.self.high c.args.self.marks c.args.number c.args.self.order.0 c.args.self.below i l (omega arith))),
-      tt,
-    ),
-  ),
-)
+pub invariant_of-result : goal.invariant_of-result
+invariant_of-result c = record {
+  order = (omega arith, omega arith);
+  top = subst (λ m. bit m 0 ≡ 1) (sym c.entered-marks.ensures) (marked_top c.args.self.high c.args.self.marks c.args.number c.args.self.top);
+  below = λ i l b. subst (λ m. bit m i ≡ 1) (sym c.entered-marks.ensures)
+      (marked_below c.args.self.floor c.args.self.high c.args.self.marks c.args.number c.args.self.order.0 c.args.self.below i l (omega arith));
+}
 
 pub returns : goal.returns
 returns c =

@@ -9,11 +9,11 @@ loop-i-init c = sym (rounds_none (number c.args.self.now.key) c.args.state)
 
 pub loop-i-preserved : goal.loop-i-preserved
 loop-i-preserved c =
-    rounds_three c.args.self.now.key c.args.self.now.keys c.args.self.now.whole c.args.state c.loop-i.x c.three-rounds-x.result c.loop-i.i (omega arith)
-    c.loop-i.invariant c.three-rounds-x.ensures
+    rounds_three c.args.self.now.key c.args.self.now.keys c.args.self.now.whole c.args.state c.loop-i.x c.three_rounds-x.result c.loop-i.i (omega arith)
+    c.loop-i.invariant c.three_rounds-x.ensures
 
 pub returns : goal.returns
 returns c =
     let i : 3 * c.loop-i.i ≡ 30 = omega arith in
-    end_is c.args.self.now.key c.args.self.now.keys c.args.self.now.whole c.args.state c.loop-i.x c.sboxes-1-apart.result c.p-layer.result
-    (c.loop-i.invariant ∙ ap (rounds (number c.args.self.now.key) c.args.state) i) c.sboxes-1-apart.ensures c.p-layer.ensures
+    end_is c.args.self.now.key c.args.self.now.keys c.args.self.now.whole c.args.state c.loop-i.x c.sboxes_1_apart.result c.p_layer.result
+    (c.loop-i.invariant ∙ ap (rounds (number c.args.self.now.key) c.args.state) i) c.sboxes_1_apart.ensures c.p_layer.ensures

@@ -9,19 +9,19 @@ use Rattle.receiver.proofs.Checks.{denied, open_undue, open_due}
 use Rattle.receiver.proofs.Finish.{answered_of, may_due}
 use Rattle.receiver.proofs.states.Listening.opened.Goals as goal
 
-pub returns-in-err-read : goal.returns-in-err-read
-returns-in-err-read g c =
+pub returns-in_err-read : goal.returns-in_err-read
+returns-in_err-read g c =
     let m = g.M.Mode.meaning c.args.mode.now in
     let left = g.M.Allowance.remaining c.args.mode.now in
     let l = c.args.self.now in
     let high = l.ledger.high in
-    let w : length c.args.work.now ≡ 64 = c.in-ok-check-work.ensures.admits in
-    let a = c.in-ok-check-set.ensures.admits in
+    let w : length c.args.work.now ≡ 64 = c.in_ok-check_work.ensures.admits in
+    let a = c.in_ok-check_set.ensures.admits in
     let k : Ours m l.set = (a.0 ∙ c.code.ensures, a.1 ∙ c.width.ensures) in
-    let p = err_from_is_err_and c.from-residual-in-err-read.result c.from-residual-in-err-read.ensures.1 in
+    let p = err_from_is_err_and c.from_residual-in_err-read.result c.from_residual-in_err-read.ensures.1 in
     let e = open_undue m left l.set high (by_marks high l.ledger.marks) c.args.tube.now (length c.args.out.now) (length c.args.work.now) w k
-    l.ledger.limit l.limit c.in-err-read.field-0.0 c.in-err-read.ensures.answers in
-    let d = denied (verdict_at m left l c.args.tube.now (length c.args.out.now) (length c.args.work.now)) c.in-err-read.field-0.0 c.args.out.now left e.0 e.1 in
+    l.ledger.limit l.limit c.in_err-read.field-0.0 c.in_err-read.ensures.answers in
+    let d = denied (verdict_at m left l c.args.tube.now (length c.args.out.now) (length c.args.work.now)) c.in_err-read.field-0.0 c.args.out.now left e.0 e.1 in
     record {
       answers = p.1 ∙ ap Err p.2 ∙ d.answers;
       out = d.stays;
@@ -38,13 +38,13 @@ returns g c =
     let left = g.M.Allowance.remaining c.args.mode.now in
     let l = c.args.self.now in
     let high = l.ledger.high in
-    let t = c.in-ok-read.read in
-    let f = c.in-ok-read.ensures.admits in
-    let w : length c.args.work.now ≡ 64 = c.in-ok-check-work.ensures.admits in
-    let a = c.in-ok-check-set.ensures.admits in
+    let t = c.in_ok-read.read in
+    let f = c.in_ok-read.ensures.admits in
+    let w : length c.args.work.now ≡ 64 = c.in_ok-check_work.ensures.admits in
+    let a = c.in_ok-check_set.ensures.admits in
     let k : Ours m l.set = (a.0 ∙ c.code.ensures, a.1 ∙ c.width.ensures) in
     let j = open_due m left l.set high (by_marks high l.ledger.marks) c.args.tube.now (length c.args.out.now) (length c.args.work.now) w k
-    l.ledger.limit l.limit t c.in-ok-read.ensures.answers in
+    l.ledger.limit l.limit t c.in_ok-read.ensures.answers in
     record {
       answers = c.finish.ensures.answers ∙ ap answer_of j;
       out = c.finish.ensures.out ∙ ap (λ v. out_of v c.args.out.now) j;

@@ -7,8 +7,8 @@ use Rattle.sender.proofs.Tubes.{seal_accepted, tag_length, tube_there, answered}
 use Rattle.sender.proofs.Verdicts.{same_ok, not_err}
 use Rattle.sender.proofs.sending.write.seal_tube.Goals as goal
 
-pub returns-in-err-count : goal.returns-in-err-count
-returns-in-err-count g c =
+pub returns-in_err-count : goal.returns-in_err-count
+returns-in_err-count g c =
     let m = g.M.Mode.meaning c.args.mode.now in
     let left = g.M.Allowance.remaining c.args.mode.now in
     let N = c.args.nonce.now in
@@ -16,10 +16,10 @@ returns-in-err-count g c =
     let at = 18 + length N + length A in
     let v = seal_accepted m left c.args.set.now N A c.args.contents.now c.args.out.now 0 at c.tag-size.result (length c.args.work.now)
     c.requires.passes c.requires.nonce c.requires.work refl c.tag-size.ensures.0 c.tag-size.ensures.2 in
-    not_err _ _ (c.in-err-count.ensures.answers ∙ ap seal_answer v)
+    not_err _ _ (c.in_err-count.ensures.answers ∙ ap seal_answer v)
 
-pub slice-bounds-tag-end : goal.slice-bounds-tag-end
-slice-bounds-tag-end g c = lent_back c.tag-size.result c.seal.new.tag c.seal.auto.tag c.tag-size.ensures.2
+pub slice_bounds-tag-end : goal.slice_bounds-tag-end
+slice_bounds-tag-end g c = lent_back c.tag-size.result c.seal.new.tag c.seal.auto.tag c.tag-size.ensures.2
 
 pub returns : goal.returns
 returns g c =
@@ -44,11 +44,11 @@ returns g c =
     let len : c.unwrap-len.result ≡ tube_size s (length A) (length M) =
     answered m law left s N A M 0 (length out) k c.requires.nonce out c.seal.new.out tag c.enclose-wrote.new.out s.code s.param at refl refl eo t
     c.enclose-wrote.result c.unwrap-len.result c.enclose-wrote.ensures.answers c.unwrap-len.ensures in
-    let count : c.in-ok-count.count ≡ m.seal_runs (length A) (length M) =
-    same_ok c.in-ok-count.count (m.seal_runs (length A) (length M)) (c.in-ok-count.ensures.answers ∙ ap seal_answer v) in
+    let count : c.in_ok-count.count ≡ m.seal_runs (length A) (length M) =
+    same_ok c.in_ok-count.count (m.seal_runs (length A) (length M)) (c.in_ok-count.ensures.answers ∙ ap seal_answer v) in
     record {
       answers =
-          ap (λ y. Ok record { len = y; count = c.in-ok-count.count }) len
+          ap (λ y. Ok record { len = y; count = c.in_ok-count.count }) len
           ∙ ap (λ y. Ok record { len = tube_size s (length A) (length M); count = y }) count;
       out =
           tube_there m law left s N A M 0 (length out) k c.requires.nonce out c.seal.new.out tag c.enclose-wrote.new.out c.code.result c.param.result at refl refl eo t

@@ -5,8 +5,8 @@ use Rattle.sender.specs.Send.{tube_size, sealed_tube}
 use Rattle.sender.proofs.Sizes.{zeros, lent_length, lent_back}
 use Rattle.sender.proofs.sending.write.write_tube.Goals as goal
 
-pub slice-bounds-seal-tube-end : goal.slice-bounds-seal-tube-end
-slice-bounds-seal-tube-end g c = lent_back c.nonce-size.result c.fill.new.bytes c.fill.auto.bytes (omega (arith, c.nonce-size.ensures.2))
+pub slice_bounds-seal_tube-end : goal.slice_bounds-seal_tube-end
+slice_bounds-seal_tube-end g c = lent_back c.nonce-size.result c.fill.new.bytes c.fill.auto.bytes (omega (arith, c.nonce-size.ensures.2))
 
 -- what stands in the nonce's bytes is the nonce of the number
 pub returns : goal.returns
@@ -24,8 +24,8 @@ returns g c =
     take_at c.fill.new.bytes (drop (size - 0) zeros) (size - 0) (omega (arith, c.fill.auto.bytes, l))
     ∙ c.fill.ensures.bytes ∙ ap (λ x. nonce_of x c.args.number) (l ∙ z.0) in
     record {
-      answers = c.seal-tube.ensures.answers;
-      out = c.seal-tube.ensures.out ∙ ap (λ x. sealed_tube m s x A M ++ drop (tube_size s (length A) (length M)) out) e;
-      left = c.seal-tube.ensures.left;
-      same = c.seal-tube.ensures.same;
+      answers = c.seal_tube.ensures.answers;
+      out = c.seal_tube.ensures.out ∙ ap (λ x. sealed_tube m s x A M ++ drop (tube_size s (length A) (length M)) out) e;
+      left = c.seal_tube.ensures.left;
+      same = c.seal_tube.ensures.same;
     }

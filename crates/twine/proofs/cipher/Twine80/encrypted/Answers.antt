@@ -8,8 +8,8 @@ use Rattle.twine.proofs.cipher.Twine80.encrypted.Goals as goal
 pub round-x-requires : goal.round-x-requires
 round-x-requires c = ap odds (c.args.self.now.scheduled c.loop-i.i (omega arith))
 
-pub last-round-requires : goal.last-round-requires
-last-round-requires c = ap odds (c.args.self.now.scheduled 35 (omega arith))
+pub last_round-requires : goal.last_round-requires
+last_round-requires c = ap odds (c.args.self.now.scheduled 35 (omega arith))
 
 pub loop-i-init : goal.loop-i-init
 loop-i-init c = sym (rounds_none (ResultKind (nibbles c.args.self.now.key)) (split c.args.state))
@@ -25,5 +25,5 @@ unfolding enc
 returns c =
     let rk = ResultKind (nibbles c.args.self.now.key) in
     let i : c.loop-i.i ≡ 35 = omega arith in
-    c.last-round.ensures ∙ ap (λ y. substituted (evens y) (split c.loop-i.x)) (c.args.self.now.scheduled 35 (omega arith))
+    c.last_round.ensures ∙ ap (λ y. substituted (evens y) (split c.loop-i.x)) (c.args.self.now.scheduled 35 (omega arith))
     ∙ ap (substituted (rk 36)) (c.loop-i.invariant ∙ ap (rounds rk (split c.args.state)) i)

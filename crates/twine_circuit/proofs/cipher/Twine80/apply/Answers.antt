@@ -7,6 +7,6 @@ use Rattle.twine_circuit.proofs.cipher.Twine80.apply.Goals as goal
 pub returns : goal.returns
 unfolding twine80
 returns c =
-    let s = c.of-block-state.ensures ∙ sym (ap nibbles (listed 8 c.args.block.now c.requires)) in
-    c.copy-from-slice.ensures.after ∙ c.to-block.ensures ∙ ap (bytes 8) c.encrypted.ensures
+    let s = c.of_block-state.ensures ∙ sym (ap nibbles (listed 8 c.args.block.now c.requires)) in
+    c.copy_from_slice.ensures.after ∙ c.to_block.ensures ∙ ap (bytes 8) c.encrypted.ensures
     ∙ ap (λ x. bytes 8 (enc (ResultKind (nibbles c.args.self.now.key)) x)) s

@@ -2,11 +2,11 @@ use Rattle.std.proofs.Common.{◌≡◌, ℕ, ◌%◌, cond, eqb, List, length, 
 use Rattle.bits.specs.Nibbles.{each, nibbles}
 use Rattle.bits.proofs.Listed.{listed}
 use Rattle.twine_circuit.specs.Halves.{slot}
-use Rattle.twine_circuit.proofs.Packing.{eight-small}
+use Rattle.twine_circuit.proofs.Packing.{eight_small}
 use Rattle.twine_circuit.proofs.halves.Halves.of_block.Goals as goal
 
 pub packed-requires : goal.packed-requires
-packed-requires c = eight-small (omega arith) (omega arith) (omega arith) (omega arith) (omega arith) (omega arith) (omega arith) (omega arith)
+packed-requires c = eight_small (omega arith) (omega arith) (omega arith) (omega arith) (omega arith) (omega arith) (omega arith) (omega arith)
 
 pub returns : goal.returns
 unfolding nibbles
