@@ -1,7 +1,6 @@
 -- Values worked by hand.
-use Rattle.std.specs.Prelude.{◌≡◌, ℕ, List, [], ◌∷◌, ◌++◌, take, drop, Some, None, refl}
+use Rattle.std.specs.Prelude.{◌≡◌, [], ◌∷◌, ◌++◌, take, drop, Some, None, refl}
 use Rattle.blocks.specs.Blocks.{Bytes, ◌⊕◌}
-use Rattle.mode.specs.Meaning.{Sealed}
 use Rattle.cloc.specs.Cloc.{HASH, tag_block, sealed_by, opened_by, full_runs, wrong_tag_runs}
 
 -- at b = 8: an empty label and empty contents take 2 runs

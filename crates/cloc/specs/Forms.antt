@@ -1,5 +1,5 @@
 -- HASH and PRF as the code comes to them: by the first block and the others, and by the last block padded whether it is full or not.
-use Rattle.std.specs.Prelude.{◌≡◌, ℕ, suc, ◌+◌, ◌-◌, ◌<◌, ◌≤◌, max, Bool, true, false, cond, eqb, ◌⊎◌, List, [], ◌∷◌, length, take, drop}
+use Rattle.std.specs.Prelude.{◌≡◌, ℕ, ◌+◌, ◌-◌, ◌<◌, ◌≤◌, max, Bool, cond, ◌⊎◌, [], ◌∷◌, length, take, drop}
 use Rattle.std.proofs.Common.{arith, sym, ◌∙◌, subst, ⊎_elim, length-drop}
 use Rattle.std.proofs.Math.Path.{refl, ap}
 use Rattle.std.proofs.lemmas.Bool.{cases_lt, cases_Bool, eqb-true, le-ltb}

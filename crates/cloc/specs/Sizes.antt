@@ -1,19 +1,19 @@
 -- V and the block that the tag is cut of have b bytes, where E keeps the length of a block.
-use Rattle.std.specs.Prelude.{◌≡◌, ℕ, ◌<◌, ◌≤◌, min, Bool, true, false, cond, ◌⊎◌, List, [], ◌∷◌, length, take, refl}
-use Rattle.std.proofs.Common.{arith, sym, ap, ◌∙◌, length-take}
+use Rattle.std.specs.Prelude.{◌≡◌, ℕ, ◌≤◌, min, Bool, true, false, cond, ◌⊎◌, List, [], ◌∷◌, length, take}
+use Rattle.std.proofs.Common.{arith, ap, ◌∙◌, length-take}
 use Rattle.std.proofs.Math.Logic.{⊎_elim}
 use Rattle.std.proofs.lemmas.Bool.{cases_Bool}
-use Rattle.blocks.specs.Blocks.{Bytes, ◌⊕◌, msb1, parts, blocks, front, last}
+use Rattle.blocks.specs.Blocks.{Bytes, ◌⊕◌, msb1, blocks, front, last}
 use Rattle.blocks.specs.Chain.{chain}
 use Rattle.blocks.specs.Pads.{ozp, fix0}
-use Rattle.blocks.specs.Words.{f1, f2, g1, g2, h}
+use Rattle.blocks.specs.Words.{f1, f2, g1, g2}
 use Rattle.blocks.proofs.Cuts.{blocks_more}
 use Rattle.blocks.proofs.Fours.{length_f1, length_f2, length_g1, length_h}
 use Rattle.blocks.proofs.Lengths.{length_fix0, length_chain}
 use Rattle.blocks.proofs.Padded.{length_ozp}
 use Rattle.blocks.proofs.Spends.{width_bounds}
 use Rattle.blocks.proofs.Xors.{length_xor}
-use Rattle.cloc.specs.Cloc.{is_full, label_blocks, SH1, SHa, HASH, SPm, tag_block, PRF}
+use Rattle.cloc.specs.Cloc.{is_full, label_blocks, SH1, SHa, HASH, tag_block, PRF}
 use Rattle.cloc.specs.Forms.{at_width}
 
 module _ (b : ℕ) (E : Bytes → Bytes) (w : (b ≡ 8) ⊎ (b ≡ 16)) (k : (X : Bytes) → length X ≡ b → length (E X) ≡ b) where

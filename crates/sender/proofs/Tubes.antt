@@ -1,15 +1,15 @@
 -- The tube of a send that passed its checks.
-use Rattle.std.proofs.Common.{◌≡◌, ℕ, ◌+◌, ◌-◌, ◌≤◌, true, cond, List, ◌++◌, length, take, drop, Some, None, Option, sym, refl, ap, ◌∙◌, subst, arith}
+use Rattle.std.proofs.Common.{◌≡◌, ℕ, ◌+◌, ◌-◌, ◌≤◌, true, List, ◌++◌, length, take, drop, Some, Option, sym, refl, ap, ◌∙◌, subst, arith}
 use borrow.Rule.Slice.PartMut.{put_mid}
 use Rattle.std.proofs.lemmas.List.{take_at}
 use Rattle.std.proofs.lemmas.Bool.{cond-true}
 use Rattle.mode.specs.declared.set.ParameterSet.{ParameterSet}
-use Rattle.mode.specs.Meaning.{Meaning, Headed, Admitted, Lawful}
+use Rattle.mode.specs.Meaning.{Meaning, Admitted, Lawful}
 use Rattle.mode.specs.Sealing.{seal_verdict, sealed}
 use Rattle.mode.proofs.Seals.{seal_passes}
 use Rattle.tube.specs.Form.{Ranged, ReadsBack}
 use Rattle.tube.specs.Put.{fits, wrote, enclosed, Laid}
-use Rattle.tube.specs.Write.{tube_of, size_of, nonce_of}
+use Rattle.tube.specs.Write.{size_of, nonce_of}
 use Rattle.tube.proofs.Laying.{laid_mid, enclosed_written, fits_from}
 use Rattle.tube.proofs.Numbers.{nonce_length, nonce_value}
 use Rattle.tube.proofs.Sections.{tube_length, reads_back}

@@ -1,5 +1,5 @@
 -- What a send comes to, by its table.
-use Rattle.std.proofs.Common.{◌≡◌, ℕ, ◌≤◌, not, List, length, Some, None, Ok, Err, Option, Result, sym, refl, ap, ◌∙◌, arith}
+use Rattle.std.proofs.Common.{◌≡◌, ℕ, not, List, length, Some, None, Ok, Err, Option, Result, ap, ◌∙◌, arith}
 use Rattle.std.proofs.lemmas.Bool.{le-leb, eq-eqb, leb-true, eqb-true}
 use Rattle.refusal.specs.Cause.{first, unless}
 use Rattle.mode.specs.declared.set.ParameterSet.{ParameterSet}

@@ -1,5 +1,5 @@
 -- What a tube that was sent carries, whatever mode sealed it.
-use Rattle.std.specs.Prelude.{◌≡◌, ℕ, ◌≤◌, List, length, Some}
+use Rattle.std.specs.Prelude.{◌≡◌, ℕ, ◌≤◌, List, Some}
 use Rattle.mode.specs.declared.set.ParameterSet.{ParameterSet}
 use Rattle.mode.specs.Meaning.{Meaning}
 use Rattle.tube.specs.Form.{ReadsBack}

@@ -1,8 +1,8 @@
 -- The chain of HASH and PRF as a loop over all blocks: zeros behind the last change nothing.
-use Rattle.std.specs.Prelude.{◌≡◌, ℕ, ◌<◌, length, refl}
+use Rattle.std.specs.Prelude.{◌≡◌, ℕ, ◌<◌, length}
 use Rattle.std.proofs.Common.{arith, sym, ap, ◌∙◌, ⊎_elim}
 use Rattle.std.proofs.lemmas.Bool.{cases_lt, eq-eqb, ne_eqb}
-use Rattle.blocks.specs.Blocks.{Bytes, ◌⊕◌, blocks, front, last}
+use Rattle.blocks.specs.Blocks.{Bytes, blocks, front, last}
 use Rattle.blocks.specs.Chain.{chain}
 use Rattle.blocks.proofs.Xors.{xor_zap}
 use Rattle.blocks.proofs.Cuts.{blocks_none, chain_last}

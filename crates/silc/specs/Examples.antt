@@ -1,5 +1,5 @@
 -- Values worked by hand. The submission has no test vector of SILC.
-use Rattle.std.specs.Prelude.{◌≡◌, ℕ, List, [], ◌∷◌, Some, None, refl}
+use Rattle.std.specs.Prelude.{◌≡◌, [], ◌∷◌, Some, None, refl}
 use Rattle.blocks.specs.Blocks.{Bytes, ◌⊕◌}
 use Rattle.blocks.specs.Words.{g}
 use Rattle.silc.specs.Silc.{HASH, PRF, silc_seal, silc_open, silc_of}

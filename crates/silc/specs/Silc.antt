@@ -1,7 +1,7 @@
 -- SILC, laid out like Fig. 9 and Fig. 10 of the CLOC and SILC v3 submission, over a cipher of width b, in bytes, and function E. N is the
 -- nonce, A the label (associated data), M the contents (plaintext), C the ciphertext, T the tag, t its length in bytes, param the byte of
 -- the parameter set.
-use Rattle.std.specs.Prelude.{ℕ, ◌+◌, ◌-◌, ◌*◌, cond, List, [], ◌∷◌, length, Some, None, Option, ◌==◌}
+use Rattle.std.specs.Prelude.{ℕ, ◌+◌, ◌-◌, ◌*◌, cond, ◌∷◌, length, Some, None, Option, ◌==◌}
 use Rattle.std.specs.Str.{bytes_eq}
 use Rattle.blocks.specs.Blocks.{Bytes, ◌⊕◌, msb, parts, blocks, front, last}
 use Rattle.blocks.specs.Pads.{zap, zpp, Len}

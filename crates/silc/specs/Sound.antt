@@ -1,20 +1,22 @@
 -- The law of a mode, of SILC over every cipher that keeps its own.
-use Rattle.std.specs.Prelude.{◌≡◌, ℕ, ◌<◌, ◌≤◌, min, ◌⊎◌, ◌∷◌, length}
+use Rattle.std.specs.Prelude.{◌≡◌, ℕ, ◌<◌, ◌≤◌, min, true, ◌⊎◌, ◌∷◌, length, Some, None}
 use native.Mathlib.Omega.{arith}
-use Rattle.std.proofs.Common.{ap, ◌∙◌}
+use Rattle.std.proofs.Common.{sym, ap, ◌∙◌, ⊎_elim}
 use Rattle.std.proofs.Math.ListN.{length-take}
+use Rattle.std.specs.Str.{bytes_eq}
+use Rattle.std.proofs.lemmas.Slice.Eq.{bytes_eq-Decides}
+use Rattle.std.proofs.lemmas.Bool.{cases_Bool}
 use Rattle.blocks.specs.Blocks.{Bytes, ◌⊕◌, blocks}
 use Rattle.blocks.specs.Pads.{zpp, Len}
 use Rattle.blocks.specs.Words.{g}
-use Rattle.blocks.specs.Chain.{enc}
+use Rattle.blocks.specs.Chain.{enc, dec}
 use Rattle.blocks.proofs.Xors.{length_xor}
 use Rattle.blocks.proofs.Lengths.{length_g, length_zpp, length_chain}
 use Rattle.blocks.proofs.Spends.{width_bounds}
-use Rattle.blocks.proofs.Tagged.{opened_sealed, sealed_opened}
 use Rattle.blocks.proofs.Undone.{invertible}
 use Rattle.mode.specs.declared.set.ParameterSet.{ParameterSet}
 use Rattle.mode.specs.Meaning.{Admitted, Lawful}
-use Rattle.silc.specs.Silc.{chained, HASH, PRF, silc_seal, silc_of}
+use Rattle.silc.specs.Silc.{chained, HASH, PRF, silc_seal, silc_open, silc_of}
 use Rattle.silc.specs.Chained.{chained_loop}
 
 module _ (b : ℕ) (E : Bytes → Bytes) (w : (b ≡ 8) ⊎ (b ≡ 16)) (k : (X : Bytes) → length X ≡ b → length (E X) ≡ b) where
@@ -46,15 +48,32 @@ module _ (b : ℕ) (E : Bytes → Bytes) (w : (b ≡ 8) ⊎ (b ≡ 16)) (k : (X 
       let V = HASH b E s.param N A in
       length_PRF s.tag V (enc b E V M) (omega arith) (length_HASH s.param N A (omega arith))
 
+  module _ (t param : ℕ) (N A C T M : Bytes) where
+    opened_sealed : silc_open b E t param N A C T ≡ Some M → silc_seal b E t param N A M ≡ record { ciphertext = C; tag = T }
+    opened_sealed e =
+        let V = HASH b E param N A in ⊎_elim
+        (λ h. let p : Some (dec b E V C) ≡ Some M = rw h at e in
+        let m : dec b E V C ≡ M = cc in
+        let c : enc b E V M ≡ C = ap (enc b E V) (sym m) ∙ (invertible b E hb).redoes V C in
+        let d = (bytes_eq-Decides T (PRF b E t V C)).0 h in
+        ap (λ x. record { ciphertext = x; tag = PRF b E t V x }) c ∙ ap (λ x. record { ciphertext = C; tag = x }) (sym d))
+        (λ h. let p : None ≡ Some M = rw h at e in cc)
+        (cases_Bool (bytes_eq T (PRF b E t V C)))
+
+    sealed_opened : silc_seal b E t param N A M ≡ record { ciphertext = C; tag = T } → silc_open b E t param N A C T ≡ Some M
+    sealed_opened e =
+        let V = HASH b E param N A in
+        let c : enc b E V M ≡ C = ap (λ s. s.ciphertext) e in
+        let u : PRF b E t V (enc b E V M) ≡ T = ap (λ s. s.tag) e in
+        let v : PRF b E t V C ≡ T = ap (PRF b E t V) (sym c) ∙ u in
+        let h : bytes_eq T (PRF b E t V C) ≡ true = (bytes_eq-Decides T (PRF b E t V C)).1 (sym v) in
+        let d : dec b E V C ≡ M = ap (dec b E V) (sym c) ∙ (invertible b E hb).undoes V M in
+        rw h (ap Some d)
+
   pub silc_lawful : Lawful (silc_of b E)
   silc_lawful = record {
-    undoes = λ s N A C T M h l e.
-        let V = HASH b E s.param N A in
-        let r = opened_sealed b E hb (PRF b E s.tag V) V M C T e in
-        ap (λ x. record { ciphertext = x; tag = PRF b E s.tag V (enc b E V M) }) r.0 ∙ ap (λ x. record { ciphertext = C; tag = x }) r.1;
-    gives = λ s N A C T M h l e.
-        let V = HASH b E s.param N A in
-        sealed_opened b E hb (PRF b E s.tag V) V M C T (ap (λ x. x.ciphertext) e) (ap (λ x. x.tag) e);
+    undoes = λ s N A C T M h l e. opened_sealed s.tag s.param N A C T M e;
+    gives = λ s N A C T M h l e. sealed_opened s.tag s.param N A C T M e;
     long = λ s N A M h. (invertible b E hb).ciphertexts (HASH b E s.param N A) M;
     tagged = silc_tagged;
     fewer = λ a x h l. omega arith;

@@ -1,18 +1,16 @@
 -- A round on all lanes at once.
-use Rattle.std.proofs.Common.{◌≡◌, ℕ, suc, ◌+◌, ◌-◌, ◌*◌, ◌^◌, ◌<◌, List, [], ◌∷◌, get_or, sym, refl, ap, ◌∙◌, ap₂, add-one, arith}
+use Rattle.std.proofs.Common.{◌≡◌, ℕ, suc, ◌+◌, ◌-◌, ◌^◌, ◌<◌, List, [], ◌∷◌, get_or, refl, ap, ◌∙◌, ap₂, add-one, arith}
 use lib.Bits.{bit_xor, xor_comm}
-use Rattle.bits.specs.Digits.{bit}
 use Rattle.bits.specs.Lanes.{lane, planes, gathered}
 use Rattle.bits.specs.Linear.{value}
-use Rattle.bits.specs.Nibbles.{each}
 use Rattle.bits.proofs.Everywhere.{everywhere}
 use Rattle.bits.proofs.Lanes.{Fit, Lifts, Is, four, found, wanted, substituted as lane-substituted, lane_xor, lanes_agree}
-use Rattle.bits.proofs.Lift.{bits, lift_outs}
+use Rattle.bits.proofs.Lift.{lift_outs}
 use Rattle.bits.proofs.Listed.{sixteen_eq}
 use Rattle.twine_circuit.specs.declared.halves.Halves.{Halves}
 use Rattle.twine.specs.Twine.{S, permuted, substituted, rounds}
 use Rattle.twine_circuit.specs.SBoxCircuit.{gates, places, circuit}
-use Rattle.twine_circuit.specs.Halves.{place, lanes, words, key_words, turning, crossing}
+use Rattle.twine_circuit.specs.Halves.{place, words, key_words, turning, crossing}
 
 -- the circuit is the S-box
 pub circuit_is : Is circuit S

@@ -1,4 +1,4 @@
-use Rattle.std.proofs.Common.{◌≡◌, ◌+◌, ◌≤◌, max, length, refl, ap, ◌∙◌, arith}
+use Rattle.std.proofs.Common.{◌≡◌, ◌+◌, max, length, refl, ap, ◌∙◌, arith}
 use Rattle.blocks.specs.Blocks.{msb, parts}
 use Rattle.blocks.specs.Chain.{enc}
 use Rattle.blocks.proofs.Spends.{ran_as, ran_then}

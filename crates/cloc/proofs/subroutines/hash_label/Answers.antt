@@ -1,9 +1,9 @@
 use Rattle.std.proofs.Common.{◌≡◌, ◌+◌, ◌-◌, ◌<◌, ◌≤◌, max, cond, eqb, ◌∷◌, length, take, drop, sym, refl, ap, ◌∙◌, arith, length-drop}
-use Rattle.blocks.specs.Blocks.{◌⊕◌, parts, blocks, front, last}
+use Rattle.blocks.specs.Blocks.{◌⊕◌, parts, blocks, last}
 use Rattle.blocks.specs.Pads.{ozp}
 use Rattle.blocks.specs.Words.{f1, f2}
 use Rattle.blocks.proofs.Spends.{width_bounds, ran_as, ran_then, ran_left}
-use Rattle.cloc.specs.Cloc.{is_full, SH1}
+use Rattle.cloc.specs.Cloc.{is_full}
 use Rattle.cloc.specs.Forms.{at_width, runs_one, runs_more, hash_one, hash_more, padded_as}
 use Rattle.cloc.proofs.subroutines.hash_label.Goals as goal
 

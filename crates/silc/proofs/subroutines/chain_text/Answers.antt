@@ -3,7 +3,7 @@ use Rattle.blocks.specs.Blocks.{◌⊕◌, parts, blocks}
 use Rattle.blocks.specs.Pads.{Len}
 use Rattle.blocks.specs.Words.{g as tweaked}
 use Rattle.blocks.specs.Chain.{chain}
-use Rattle.blocks.proofs.Spends.{width_bounds, ran_as, ran_then, ran_left}
+use Rattle.blocks.proofs.Spends.{width_bounds, ran_as, ran_then}
 use Rattle.silc.specs.Silc.{chained}
 use Rattle.silc.specs.Chained.{chained_loop}
 use Rattle.silc.proofs.subroutines.chain_text.Goals as goal

@@ -1,6 +1,6 @@
-use Rattle.std.proofs.Common.{◌≡◌, ◌+◌, ◌*◌, Bool, true, false, cond, length, Ok, sym, refl, ap, ◌∙◌, arith}
+use Rattle.std.proofs.Common.{◌≡◌, ◌+◌, ◌*◌, true, false, cond, length, Ok, sym, refl, ap, ◌∙◌, arith}
 use Rattle.std.specs.Str.{bytes_eq}
-use Rattle.blocks.specs.Blocks.{msb, parts}
+use Rattle.blocks.specs.Blocks.{parts}
 use Rattle.blocks.proofs.Spends.{ran_as, ran_then}
 use Rattle.silc.specs.Silc.{PRF, DEC}
 use Rattle.silc.proofs.Calls.{moved}

@@ -1,4 +1,4 @@
-use Rattle.std.proofs.Common.{◌≡◌, ◌+◌, ◌*◌, length, sym, refl, ap, ◌∙◌, arith}
+use Rattle.std.proofs.Common.{◌≡◌, ◌+◌, ◌*◌, length, refl, ap, ◌∙◌, arith}
 use Rattle.blocks.specs.Blocks.{parts}
 use Rattle.blocks.proofs.Spends.{ran_as, ran_then}
 use Rattle.silc.specs.Silc.{PRF, ENC}

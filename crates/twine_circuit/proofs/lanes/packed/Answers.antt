@@ -1,6 +1,5 @@
 use Rattle.std.proofs.Common.{◌≡◌, ℕ, ◌*◌, ◌%◌, ◌^◌, get_or, ◌∙◌, arith}
 use Rattle.bits.specs.Linear.{value}
-use Rattle.bits.proofs.Lanes.{xors}
 use Rattle.twine_circuit.specs.Halves.{spreading}
 use Rattle.twine_circuit.proofs.Packing.{packed_are}
 use Rattle.twine_circuit.proofs.lanes.packed.Goals as goal

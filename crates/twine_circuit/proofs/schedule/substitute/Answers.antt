@@ -1,4 +1,4 @@
-use Rattle.std.proofs.Common.{◌≡◌, ℕ, ◌+◌, ◌*◌, ◌/◌, ◌%◌, ◌<◌, List, get_or, sym, refl, ap, ◌∙◌, subst, arith}
+use Rattle.std.proofs.Common.{◌≡◌, ℕ, ◌+◌, ◌*◌, ◌%◌, ◌<◌, List, get_or, sym, refl, ap, ◌∙◌, subst}
 use Rattle.bits.specs.Lanes.{planes}
 use Rattle.bits.proofs.Everywhere.{everywhere}
 use Rattle.twine.specs.Twine.{S}

@@ -1,8 +1,7 @@
-use Rattle.std.proofs.Common.{◌≡◌, ℕ, ◌+◌, List, ◌++◌, length, drop, is_err, Ok, Err, sym, refl, ap, ◌∙◌, arith, rules}
+use Rattle.std.proofs.Common.{◌≡◌, ◌++◌, length, drop, is_err, Ok, Err, sym, refl, ap, ◌∙◌, rules}
 use Rattle.std.proofs.lemmas.Result.{err_from_is_err_and, IfOk-from_err}
 use Rattle.tube.specs.Write.{nonce_of}
 use Rattle.tube.proofs.Numbers.{nonce_length}
-use Rattle.sender.specs.declared.sent.Sent.{Sent}
 use Rattle.sender.specs.Send.{send_answer, send_out, send_left, send_next, sealed_tube, tube_size}
 use Rattle.sender.proofs.Tubes.{carries, sealed_length}
 use Rattle.sender.proofs.Verdicts.{same_ok, verdict_sent, verdict_unsent}
