@@ -1,13 +1,13 @@
 #!/usr/bin/env python3
-"""Writes vectors/*.json, and puts the same tests as lines into crates/cases/stdin and stdout: python3 reference/vectors.py
+"""Writes vectors/*.json, and the same tests as lines into vectors/cases.in, with what the program `cases` must write in vectors/cases.out:
+python3 reference/vectors.py
 
-The lines of the vectors have the file's name and the test's number in their field `case`. The other lines of the two files stay as they are.
+The lines have the file's name and the test's number in their field `case`.
 """
 
 from __future__ import annotations
 
 import json
-import re
 from pathlib import Path
 from types import ModuleType
 
@@ -19,7 +19,6 @@ from rognivar.lines import answer
 
 ROOT = Path(__file__).resolve().parent.parent
 FILES: tuple[ModuleType, ...] = (ciphers, modes, calls, sets, tubes, sends, sessions)
-OURS = re.compile(rb"kind=\S+ case=(?:%s)-\d+ " % "|".join(module.NAME for module in FILES).encode())
 
 
 def test_of(number: int, name: str, chosen: Chosen) -> tuple[Json, str]:
@@ -59,13 +58,10 @@ def text_of(made: Json) -> str:
     return "\n".join(parts) + "\n  ]\n}\n"
 
 
-def put_into_gate(lines: list[str]) -> None:
-    stdin, stdout = ROOT / "crates/cases/stdin", ROOT / "crates/cases/stdout"
-    given, written = (path.read_bytes().split(b"\n")[:-1] for path in (stdin, stdout))
-    kept = [i for i, old in enumerate(given) if not OURS.match(old)]
-    ours = [text.encode() for text in lines]
-    stdin.write_bytes(b"".join(text + b"\n" for text in [*(given[i] for i in kept), *ours]))
-    stdout.write_bytes(b"".join(text + b"\n" for text in [*(written[i] for i in kept), *map(answer, ours)]))
+def write_lines(lines: list[str]) -> None:
+    given = [text.encode() for text in lines]
+    (ROOT / "vectors/cases.in").write_bytes(b"".join(text + b"\n" for text in given))
+    (ROOT / "vectors/cases.out").write_bytes(b"".join(answer(text) + b"\n" for text in given))
 
 
 def main() -> None:
@@ -77,7 +73,7 @@ def main() -> None:
         (ROOT / "vectors" / f"{module.NAME}.json").write_text(text)
         print(f"vectors/{module.NAME}.json: {len(more)} tests, {len(text) // 1024} KB")
         lines += more
-    put_into_gate(lines)
+    write_lines(lines)
 
 
 if __name__ == "__main__":

@@ -1,4 +1,4 @@
-"""The files of vectors/ hold what the reference computes, and every test stands among the lines that the gate runs."""
+"""The files of vectors/ hold what the reference computes, and every test stands among the lines that are kept for the program `cases`."""
 
 import json
 import unittest
@@ -43,8 +43,8 @@ class Vectors(unittest.TestCase):
             computed = expected(kind_of(group, test), answer(given.encode()).decode())
             self.assertEqual({name: value for name, value in test.items() if name not in ("tcId", "comment", "flags")}, computed, label)
 
-    def test_every_vector_is_run_by_the_gate(self) -> None:
-        given, written = ((ROOT / "crates/cases" / name).read_bytes().split(b"\n")[:-1] for name in ("stdin", "stdout"))
+    def test_every_vector_has_its_line(self) -> None:
+        given, written = ((ROOT / "vectors" / name).read_bytes().split(b"\n")[:-1] for name in ("cases.in", "cases.out"))
         self.assertEqual(len(given), len(written))
         run = dict(zip(given, written))
         for label, group, test in tests():
