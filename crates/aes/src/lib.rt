@@ -1,6 +1,6 @@
 #![tactic(auto)]
 
-pub mod cipher;
+pub mod aes128;
 mod rounds;
 mod schedule;
 pub mod tables;

@@ -2,7 +2,7 @@
 
 #![tactic(auto)]
 
-pub mod cipher;
+pub mod aes128;
 mod circuit;
 mod planes;
 pub mod sbox;

@@ -1,16 +1,16 @@
 // Ciphers and modes by their names.
 use crate::input::Input;
 use crate::line::{Case, CaseFault};
-use aes::cipher::Aes128;
+use aes::aes128::Aes128;
 use any::ciphers::OneOf;
 use any::modes::Either;
 use cipher::fault::CipherFault;
 use cipher::meter::Meter;
 use cloc::cloc::Cloc;
-use led::cipher::Led80;
-use present::cipher::Present80;
+use led::led80::Led80;
+use present::present80::Present80;
 use silc::silc::Silc;
-use twine::cipher::Twine80;
+use twine::twine80::Twine80;
 
 pub type AnyCipher = OneOf<Aes128, Present80, Led80, Twine80>;
 

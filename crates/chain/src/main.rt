@@ -11,18 +11,18 @@
 
 mod seals;
 
-use aes::cipher::Aes128;
+use aes::aes128::Aes128;
 use anyhow::anyhow;
 use cipher::interface::{Allowance, Cipher};
 use cloc::cloc::Cloc;
-use led::cipher::Led80;
-use present::cipher::Present80;
+use led::led80::Led80;
+use present::present80::Present80;
 use seals::{seal_long, seal_short};
 use silc::silc::Silc;
 use std::env;
 use std::time::Instant;
 use text::hex::Hex;
-use twine::cipher::Twine80;
+use twine::twine80::Twine80;
 
 // The number of runs that were refused: none, for a cipher without end and a block of its width.
 fn chained<C: Cipher>(cipher: &mut C, block: &mut [u8], count: u64) -> u64 {

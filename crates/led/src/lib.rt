@@ -1,7 +1,7 @@
 #![tactic(auto)]
 
-pub mod cipher;
 mod columns;
+pub mod led80;
 mod rounds;
 mod subkeys;
 mod tables;

@@ -2,9 +2,9 @@
 
 #![tactic(auto)]
 
-pub mod cipher;
 mod constants;
 mod layers;
+pub mod led80;
 mod planes;
 mod rounds;
 mod subkeys;

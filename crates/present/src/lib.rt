@@ -2,6 +2,6 @@
 
 #![tactic(auto)]
 
-pub mod cipher;
 mod layers;
+pub mod present80;
 mod schedule;

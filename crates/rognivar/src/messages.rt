@@ -1,19 +1,19 @@
 // One message under each of the five recommended parameter sets: sealed, opened, damaged and refused.
-use aes::cipher::Aes128;
+use aes::aes128::Aes128;
 use cipher::interface::{Allowance, Cipher};
 use cipher::meter::Meter;
 use cloc::cloc::Cloc;
-use led::cipher::Led80;
+use led::led80::Led80;
 use mode::fault::ModeFault;
 use mode::interface::Mode;
 use mode::lookup::lookup;
 use mode::set::ParameterSet;
-use present::cipher::Present80;
+use present::present80::Present80;
 use silc::silc::Silc;
 use std::io;
 use text::hex::Hex;
 use tube::writing::fill;
-use twine::cipher::Twine80;
+use twine::twine80::Twine80;
 
 const GRANTED: u64 = 100;
 

@@ -1,5 +1,5 @@
 // A bad route: in which order the tubes come, which comes twice, cut short or with other contents, and one of another link.
-use aes::cipher::Aes128;
+use aes::aes128::Aes128;
 use anyhow::anyhow;
 use cloc::cloc::Cloc;
 use exchange::records::{OpenOrder, ReceiveCall};

@@ -3,7 +3,7 @@
 use crate::cutting::{Cut, cut_sheet, end_of, places};
 use crate::joining::{join, ledger_of, signed_pieces};
 use crate::route::{Route, bad_route, put_altered, put_foreign};
-use aes::cipher::Aes128;
+use aes::aes128::Aes128;
 use anyhow::anyhow;
 use cipher::interface::Allowance;
 use cipher::meter::Meter;

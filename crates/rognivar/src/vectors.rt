@@ -1,13 +1,13 @@
 // The published vectors, run by the ciphers under a meter that grants two runs.
-use aes::cipher::Aes128;
+use aes::aes128::Aes128;
 use cipher::fault::CipherFault;
 use cipher::interface::{Allowance, Cipher};
 use cipher::meter::Meter;
-use led::cipher::Led80;
-use present::cipher::Present80;
+use led::led80::Led80;
+use present::present80::Present80;
 use std::io;
 use text::hex::Hex;
-use twine::cipher::Twine80;
+use twine::twine80::Twine80;
 
 const GRANTED: u64 = 2;
 

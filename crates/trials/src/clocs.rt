@@ -1,6 +1,6 @@
 // The published vector of CLOC: "CLOC: Authenticated Encryption for Short Input" (FSE 2014), over AES-128. It has a nonce of twelve bytes
 // and no param byte, so it is a case of version 3 whose param is the first byte of that nonce.
-use aes::cipher::Aes128;
+use aes::aes128::Aes128;
 use cloc::cloc::Cloc;
 use mode::interface::Mode;
 use mode::set::ParameterSet;

@@ -1,5 +1,5 @@
 // A pile of three meters over AES.
-use aes::cipher::Aes128;
+use aes::aes128::Aes128;
 use cipher::fault::CipherFault;
 use cipher::interface::{Allowance, Cipher};
 use cipher::meter::Meter;

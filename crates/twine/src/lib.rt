@@ -2,6 +2,6 @@
 
 #![tactic(auto)]
 
-pub mod cipher;
 mod round;
 mod schedule;
+pub mod twine80;

@@ -3,8 +3,8 @@
 
 #![tactic(auto)]
 
-pub mod cipher;
 mod halves;
 mod lanes;
 mod round;
 mod schedule;
+pub mod twine80;

@@ -1,8 +1,0 @@
-use Rattle.std.proofs.Common.{◌≡◌}
-use Rattle.bits.specs.Nibbles.{nibbles}
-use Rattle.twine.specs.Twine.{ResultKind, rounds}
-use Rattle.twine.specs.Split.{split}
-use Rattle.twine.proofs.cipher.Twine80.encrypted.Given as goal
-
-abbrev pub invariant-loop-i : goal.invariant-loop-i
-invariant-loop-i l = split l.x ≡ rounds (ResultKind (nibbles l.self.key)) (split l.initial.x) l.i
