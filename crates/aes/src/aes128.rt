@@ -1,9 +1,8 @@
 // AES-128 (FIPS 197) under a key, on the four columns of the state as words.
-ghost use Rattle.std.specs.Prelude.{◌≡◌, length};
-ghost use Rattle.std.proofs.Math.Path.{refl};
+ghost use Rattle.std.specs.Prelude.{◌≡◌, length, refl};
 ghost use Rattle.cipher.specs.Left.{no_end};
 ghost use Rattle.aes.specs.Fips197.{KeyExpansion, aes128};
-ghost use Rattle.std.proofs.Common.{rules, arith};
+ghost use Rattle.std.proofs.Common.{rules};
 ghost use Rattle.aes.specs.Fips197;
 
 use crate::rounds::{last_column, mixed_column, state_of};
@@ -56,7 +55,7 @@ impl Aes128 {
 impl Allowance for Aes128 {
     ghost remaining = { λ _. no_end };
 
-    ghost bounded = { first_of (Prim.search rules, Prim.grind (arith, Self.row.coded.inj)) };
+    ghost bounded = { Prim.search rules };
 
     fn left(&self) -> u64 {
         u64::MAX
@@ -68,7 +67,7 @@ impl Cipher for Aes128 {
 
     ghost E = { λ c. aes128 c.key };
 
-    ghost widths = { first_of (Prim.search rules, Prim.grind (arith, Self.row.coded.inj)) };
+    ghost widths = { Prim.search rules };
 
     ghost blocks = { unfold aes128 Fips197.Cipher in λ c X h. refl };
 

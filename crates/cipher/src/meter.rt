@@ -1,7 +1,7 @@
 // A meter: a quota of runs over any cipher, itself a cipher, so that meters can be piled.
 ghost use Rattle.std.specs.Prelude.{◌≡◌, ℕ, ◌^◌, ◌<◌, min, ◌⊎◌};
 ghost use Rattle.cipher.specs.Run.{answer, block_after, left_after, quota_after};
-ghost use Rattle.std.proofs.Common.{rules, arith};
+ghost use Rattle.std.proofs.Common.{rules};
 
 use crate::fault::CipherFault;
 use crate::interface::{Allowance, Cipher};
@@ -62,7 +62,7 @@ impl<C: Cipher> Meter<C> {
 impl<C: Cipher> Allowance for Meter<C> {
     ghost remaining = { λ m. min m.quota (C.Allowance.remaining m.below) };
 
-    ghost bounded = { first_of (Prim.search rules, Prim.grind (arith, Self.row.coded.inj)) };
+    ghost bounded = { Prim.search rules };
 
     fn left(&self) -> u64 {
         self.quota.min(self.below.left())
@@ -74,9 +74,9 @@ impl<C: Cipher> Cipher for Meter<C> {
 
     ghost E = { λ m. C.Cipher.E m.below };
 
-    ghost widths = { first_of (Prim.search rules, Prim.grind (arith, Self.row.coded.inj)) };
+    ghost widths = { Prim.search rules };
 
-    ghost blocks = { first_of (Prim.search rules, Prim.grind (arith, Self.row.coded.inj)) };
+    ghost blocks = { Prim.search rules };
 
     fn width(&self) -> usize {
         self.below.width()

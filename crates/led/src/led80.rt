@@ -1,10 +1,9 @@
 // LED-80 as a cipher.
-ghost use Rattle.std.specs.Prelude.{◌≡◌, length};
-ghost use Rattle.std.proofs.Math.Path.{refl};
+ghost use Rattle.std.specs.Prelude.{◌≡◌, length, refl};
 ghost use Rattle.cipher.specs.Left.{no_end};
 ghost use Rattle.led.specs.Led.{K1, K2, led80, led};
 ghost use Rattle.led.specs.Columns.{cells};
-ghost use Rattle.std.proofs.Common.{rules, arith};
+ghost use Rattle.std.proofs.Common.{rules};
 
 use crate::columns::Columns;
 use crate::rounds::encrypted;
@@ -39,7 +38,7 @@ impl Led80 {
 impl Allowance for Led80 {
     ghost remaining = { λ _. no_end };
 
-    ghost bounded = { first_of (Prim.search rules, Prim.grind (arith, Self.row.coded.inj)) };
+    ghost bounded = { Prim.search rules };
 
     fn left(&self) -> u64 {
         u64::MAX
@@ -51,7 +50,7 @@ impl Cipher for Led80 {
 
     ghost E = { λ c. led80 c.key };
 
-    ghost widths = { first_of (Prim.search rules, Prim.grind (arith, Self.row.coded.inj)) };
+    ghost widths = { Prim.search rules };
 
     ghost blocks = { unfold led led80 in λ c X e. refl };
 

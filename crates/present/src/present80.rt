@@ -4,7 +4,7 @@ ghost use Rattle.cipher.specs.Left.{no_end};
 ghost use Rattle.present.specs.Present.{encrypt};
 ghost use Rattle.present.specs.Block.{number, present80};
 ghost use Rattle.present.specs.RoundKeys.{RoundKeys};
-ghost use Rattle.std.proofs.Common.{rules, arith};
+ghost use Rattle.std.proofs.Common.{rules};
 ghost use Rattle.present.specs.Bytes.{block_length};
 
 use crate::layers::{p_layer, sboxes_1_apart, three_rounds};
@@ -48,7 +48,7 @@ impl Present80 {
 impl Allowance for Present80 {
     ghost remaining = { λ _. no_end };
 
-    ghost bounded = { first_of (Prim.search rules, Prim.grind (arith, Self.row.coded.inj)) };
+    ghost bounded = { Prim.search rules };
 
     fn left(&self) -> u64 {
         u64::MAX
@@ -60,7 +60,7 @@ impl Cipher for Present80 {
 
     ghost E = { λ c. present80 c.key };
 
-    ghost widths = { first_of (Prim.search rules, Prim.grind (arith, Self.row.coded.inj)) };
+    ghost widths = { Prim.search rules };
 
     ghost blocks = { λ c X h. block_length c.key X };
 

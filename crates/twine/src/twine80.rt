@@ -1,11 +1,10 @@
 // TWINE-80 as a cipher: blocks of 8 bytes, keys of 10.
-ghost use Rattle.std.specs.Prelude.{◌≡◌, length};
-ghost use Rattle.std.proofs.Math.Path.{refl};
+ghost use Rattle.std.specs.Prelude.{◌≡◌, length, refl};
 ghost use Rattle.bits.specs.Nibbles.{nibbles};
 ghost use Rattle.cipher.specs.Left.{no_end};
 ghost use Rattle.twine.specs.Twine.{ResultKind, enc, twine80};
 ghost use Rattle.twine.specs.Split.{split, Scheduled};
-ghost use Rattle.std.proofs.Common.{rules, arith};
+ghost use Rattle.std.proofs.Common.{rules};
 
 use crate::round::{last_round, round};
 use cipher::fault::CipherFault;
@@ -49,7 +48,7 @@ impl Twine80 {
 impl Allowance for Twine80 {
     ghost remaining = { λ _. no_end };
 
-    ghost bounded = { first_of (Prim.search rules, Prim.grind (arith, Self.row.coded.inj)) };
+    ghost bounded = { Prim.search rules };
 
     fn left(&self) -> u64 {
         u64::MAX
@@ -61,7 +60,7 @@ impl Cipher for Twine80 {
 
     ghost E = { λ c. twine80 c.key };
 
-    ghost widths = { first_of (Prim.search rules, Prim.grind (arith, Self.row.coded.inj)) };
+    ghost widths = { Prim.search rules };
 
     ghost blocks = { unfold twine80 in λ c X h. refl };
 
