@@ -8,7 +8,7 @@ use Rattle.mode.specs.declared.fault.ModeFault.TheVariants as mode
 use Rattle.mode.specs.declared.set.ParameterSet.{ParameterSet}
 use Rattle.mode.specs.Meaning.{Meaning}
 use Rattle.mode.specs.Causes.{work_causes, foreign_causes, left_causes, tag_causes}
-use Rattle.mode.specs.Opening.{given, left_after as leftAfterMode}
+use Rattle.mode.specs.Opening.{given, left_after as left_after_mode}
 use Rattle.tube.specs.declared.fault.TubeFault.{TubeFault}
 use Rattle.tube.specs.declared.fault.TubeFault.TheVariants.{Form}
 use Rattle.tube.specs.declared.tube.Tube.{Tube}
@@ -140,7 +140,7 @@ out_of (refused f) out = out
 
 -- what is left after a refusal: all, but for what a wrong tag has cost
 abbrev pub left_after : EndFault → ℕ → ℕ
-left_after (fault.Mode f) left = leftAfterMode f left
+left_after (fault.Mode f) left = left_after_mode f left
 left_after (fault.Tube f) left = left
 left_after (fault.Start k) left = left
 left_after (fault.Last k) left = left

@@ -46,10 +46,10 @@ pub register_more : (K : List ℕ) (r : ℕ) → WK K (r + 1) ≡ update (CON (s
 unfolding WK
 register_more K r = ap (WK K) (add-one r)
 
-pub rounds_none : (ResultKind : ℕ → List ℕ) (x : List ℕ) → rounds ResultKind x 0 ≡ x
+pub rounds_none : (RK : ℕ → List ℕ) (x : List ℕ) → rounds RK x 0 ≡ x
 unfolding rounds
-rounds_none ResultKind x = refl
+rounds_none RK x = refl
 
-pub rounds_more : (ResultKind : ℕ → List ℕ) (x : List ℕ) (i : ℕ) → rounds ResultKind x (i + 1) ≡ permuted (substituted (ResultKind (suc i)) (rounds ResultKind x i))
+pub rounds_more : (RK : ℕ → List ℕ) (x : List ℕ) (i : ℕ) → rounds RK x (i + 1) ≡ permuted (substituted (RK (suc i)) (rounds RK x i))
 unfolding rounds
-rounds_more ResultKind x i = ap (rounds ResultKind x) (add-one i)
+rounds_more RK x i = ap (rounds RK x) (add-one i)

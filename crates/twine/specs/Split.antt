@@ -2,7 +2,7 @@
 use Rattle.std.specs.Prelude.{◌≡◌, ℕ, suc, ◌+◌, ◌-◌, ◌*◌, ◌/◌, ◌%◌, ◌<◌, cond, List, replicate, ◌==◌, bit_xor, slice_index}
 use Rattle.bits.specs.Digits.{word}
 use Rattle.bits.specs.Nibbles.{each, nibbles}
-use Rattle.twine.specs.Twine.{S, ResultKind}
+use Rattle.twine.specs.Twine.{S, RK}
 
 -- the sixteen nibbles of 64 bits
 abbrev pub split : ℕ → List ℕ
@@ -25,7 +25,7 @@ Holds rk k = split k ≡ each 16 (λ i. cond (i % 2 == 0) (slice_index rk (i / 2
 
 -- the 36 round keys of a key, that of round i + 1 at place i
 abbrev pub Scheduled : List ℕ → List ℕ → Type 0
-Scheduled key keys = (i : ℕ) → i < 36 → Holds (ResultKind (nibbles key) (suc i)) (slice_index keys i)
+Scheduled key keys = (i : ℕ) → i < 36 → Holds (RK (nibbles key) (suc i)) (slice_index keys i)
 
 -- S of the left nibble of a byte, added to the right one
 unfoldable pub mixed : ℕ → ℕ

@@ -1,5 +1,5 @@
 -- TWINE-80 of "TWINE: A Lightweight Block Cipher for Multiple Platforms" (SAC 2012). A state X is the list of its 4-bit words X_0 to
--- X_15, the key register WK that of WK_0 to WK_19, a round key ResultKind that of RK_0 to RK_7; + between words is bitwise. Rounds count from 1.
+-- X_15, the key register WK that of WK_0 to WK_19, a round key RK that of RK_0 to RK_7; + between words is bitwise. Rounds count from 1.
 use Rattle.std.specs.Prelude.{ℕ, zero, suc, ◌-◌, ◌*◌, ◌/◌, ◌%◌, cond, List, [], ◌∷◌, ◌++◌, map, take, drop, replicate, ◌==◌, bit_xor, nat_lt, slice_index, slice_set}
 use Rattle.bits.specs.Nibbles.{each, nibbles, bytes}
 
@@ -28,14 +28,14 @@ placed x (suc h) = slice_set (placed x h) (π h) (slice_index x h)
 abbrev pub permuted : List ℕ → List ℕ
 permuted x = placed x 16
 
--- the state after i rounds, ResultKind i being the key of round i
+-- the state after i rounds, RK i being the key of round i
 unfoldable pub rounds : (ℕ → List ℕ) → List ℕ → ℕ → List ℕ
-rounds ResultKind x zero = x
-rounds ResultKind x (suc i) = permuted (substituted (ResultKind (suc i)) (rounds ResultKind x i))
+rounds RK x zero = x
+rounds RK x (suc i) = permuted (substituted (RK (suc i)) (rounds RK x i))
 
 -- encryption: 36 rounds, the last without the shuffle
 unfoldable pub enc : (ℕ → List ℕ) → List ℕ → List ℕ
-enc ResultKind x = substituted (ResultKind 36) (rounds ResultKind x 35)
+enc RK x = substituted (RK 36) (rounds RK x 35)
 
 -- the powers of z in GF(2^6) with z^6 + z + 1
 unfoldable pub power : ℕ → ℕ
@@ -73,10 +73,10 @@ unfoldable pub WK : List ℕ → ℕ → List ℕ
 WK K zero = K
 WK K (suc r) = update (CON (suc r)) (WK K r)
 
-abbrev pub ResultKind : List ℕ → ℕ → List ℕ
-ResultKind K zero = []
-ResultKind K (suc r) = round_key (WK K r)
+abbrev pub RK : List ℕ → ℕ → List ℕ
+RK K zero = []
+RK K (suc r) = round_key (WK K r)
 
 -- E on blocks of 8 bytes under a key of 10
 unfoldable pub twine80 : List ℕ → List ℕ → List ℕ
-twine80 key block = bytes 8 (enc (ResultKind (nibbles key)) (nibbles block))
+twine80 key block = bytes 8 (enc (RK (nibbles key)) (nibbles block))

@@ -2,7 +2,7 @@
 ghost use Rattle.std.specs.Prelude.{◌≡◌, length, refl};
 ghost use Rattle.bits.specs.Nibbles.{nibbles};
 ghost use Rattle.cipher.specs.Left.{no_end};
-ghost use Rattle.twine.specs.Twine.{ResultKind, enc, twine80};
+ghost use Rattle.twine.specs.Twine.{RK, enc, twine80};
 ghost use Rattle.twine.specs.Split.{split, Scheduled};
 ghost use Rattle.std.proofs.Common.{rules};
 
@@ -23,7 +23,7 @@ pub struct Twine80 {
 impl Twine80 {
     // 36 rounds on a state.
     fn encrypted(&self, state: u64) -> u64
-        ensures { split result ≡ enc (ResultKind (nibbles self.now.key)) (split state) }
+        ensures { split result ≡ enc (RK (nibbles self.now.key)) (split state) }
     {
         let mut x = state;
         for i in 0..35 {

@@ -62,10 +62,10 @@ module _ (x : Halves) (key s n : ℕ) (hr : x.right < 2 ^ 32) (hs : s < 2 ^ 32) 
       sixteen_eq (new 0 (omega arith)) refl (new 3 (omega arith)) refl (new 5 (omega arith)) refl (new 4 (omega arith)) refl (new 6 (omega arith)) refl (new 7 (omega arith)) refl
       (new 1 (omega arith)) refl (new 2 (omega arith)) refl
 
-pub rounds_none : (ResultKind : ℕ → List ℕ) (x : List ℕ) → rounds ResultKind x 0 ≡ x
+pub rounds_none : (RK : ℕ → List ℕ) (x : List ℕ) → rounds RK x 0 ≡ x
 unfolding rounds
-rounds_none ResultKind x = refl
+rounds_none RK x = refl
 
-pub rounds_more : (ResultKind : ℕ → List ℕ) (x : List ℕ) (i : ℕ) → rounds ResultKind x (i + 1) ≡ permuted (substituted (ResultKind (suc i)) (rounds ResultKind x i))
+pub rounds_more : (RK : ℕ → List ℕ) (x : List ℕ) (i : ℕ) → rounds RK x (i + 1) ≡ permuted (substituted (RK (suc i)) (rounds RK x i))
 unfolding rounds
-rounds_more ResultKind x i = ap (rounds ResultKind x) (add-one i)
+rounds_more RK x i = ap (rounds RK x) (add-one i)

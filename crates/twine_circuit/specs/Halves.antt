@@ -5,7 +5,7 @@ use Rattle.bits.specs.Lanes.{lane}
 use Rattle.bits.specs.Linear.{Linear, whole, plus, under, up, down}
 use Rattle.bits.specs.Nibbles.{each, nibbles}
 use Rattle.twine_circuit.specs.declared.halves.Halves.{Halves}
-use Rattle.twine.specs.Twine.{π, ResultKind}
+use Rattle.twine.specs.Twine.{π, RK}
 
 -- bit k of lane i, counted from the right: the bits of a lane are 8 places apart
 abbrev pub place : ℕ → ℕ
@@ -29,7 +29,7 @@ key_words k = each 8 (λ j. slice_index (lanes k) (slot (2 * j)))
 
 -- the 36 round keys of a key, that of round i + 1 at place i
 abbrev pub Scheduled : List ℕ → List ℕ → Type 0
-Scheduled key keys = (i : ℕ) → i < 36 → key_words (slice_index keys i) ≡ ResultKind (nibbles key) (suc i)
+Scheduled key keys = (i : ℕ) → i < 36 → key_words (slice_index keys i) ≡ RK (nibbles key) (suc i)
 
 -- the state before a block shuffle: X_h is what X_π(h) is after it
 abbrev pub unshuffled : List ℕ → List ℕ

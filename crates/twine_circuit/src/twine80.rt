@@ -2,7 +2,7 @@
 ghost use Rattle.std.specs.Prelude.{◌≡◌, length, refl};
 ghost use Rattle.bits.specs.Nibbles.{nibbles};
 ghost use Rattle.cipher.specs.Left.{no_end};
-ghost use Rattle.twine.specs.Twine.{ResultKind, enc, twine80};
+ghost use Rattle.twine.specs.Twine.{RK, enc, twine80};
 ghost use Rattle.twine_circuit.specs.Halves.{words, unshuffled, Scheduled};
 ghost use Rattle.std.proofs.Common.{rules};
 
@@ -24,7 +24,7 @@ pub struct Twine80 {
 impl Twine80 {
     // 36 rounds on a state, with the block shuffle of the last one too.
     fn encrypted(&self, state: Halves) -> Halves
-        ensures { unshuffled (words result) ≡ enc (ResultKind (nibbles self.now.key)) (words state) }
+        ensures { unshuffled (words result) ≡ enc (RK (nibbles self.now.key)) (words state) }
     {
         let mut x = state;
         for i in 0..36 {

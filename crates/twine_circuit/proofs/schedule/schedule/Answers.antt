@@ -1,7 +1,7 @@
 use Rattle.std.proofs.Common.{◌≡◌, ℕ, suc, ◌+◌, get_or, set, replicate, sym, refl, ap, ◌∙◌, subst, arith, length-set, rules, below_more}
 use Rattle.std.proofs.lemmas.List.{get_or-set_same, get_or-set_other}
 use Rattle.bits.specs.Nibbles.{nibbles}
-use Rattle.twine.specs.Twine.{WK, ResultKind, round_key, update, CON}
+use Rattle.twine.specs.Twine.{WK, RK, round_key, update, CON}
 use Rattle.twine_circuit.specs.Halves.{key_words}
 use Rattle.twine_circuit.proofs.Keys.{register_none, register_more}
 use Rattle.twine_circuit.proofs.schedule.schedule.Goals as goal
@@ -15,7 +15,7 @@ loop-r-init c =
       c.register-wk.ensures.small,
       search rules,
       refl,
-      below_more (λ j. key_words (get_or (replicate 36 v) j 0) ≡ ResultKind K (suc j)) 0 (λ j h. absurd (omega arith))
+      below_more (λ j. key_words (get_or (replicate 36 v) j 0) ≡ RK K (suc j)) 0 (λ j h. absurd (omega arith))
           (subst (λ w. key_words v ≡ round_key w) e c.round_key-keys.ensures),
     )
 
@@ -24,7 +24,7 @@ loop-r-preserved c =
     let K = nibbles c.args.key.now in
     let r : ℕ = c.loop-r.r in
     let v : ℕ = c.round_key.result in
-    let P : ℕ → ℕ → Type 0 = λ j n. key_words n ≡ ResultKind K (suc j) in
+    let P : ℕ → ℕ → Type 0 = λ j n. key_words n ≡ RK K (suc j) in
     let e : c.updated-wk.result ≡ WK K (r + 1) =
     c.updated-wk.ensures.is ∙ ap (λ k. update k c.loop-r.wk) c.constant.ensures.is ∙ ap (update (CON (suc r))) c.loop-r.invariant.0 ∙ sym (register_more K r) in (
       e,

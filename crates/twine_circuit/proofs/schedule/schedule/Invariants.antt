@@ -1,10 +1,10 @@
 use Rattle.std.proofs.Common.{◌≡◌, ℕ, suc, ◌+◌, ◌<◌, length, get_or}
 use Rattle.bits.specs.Nibbles.{nibbles}
-use Rattle.twine.specs.Twine.{WK, ResultKind}
+use Rattle.twine.specs.Twine.{WK, RK}
 use Rattle.twine_circuit.specs.Halves.{Nibbles, key_words}
 use Rattle.twine_circuit.proofs.schedule.schedule.Given as goal
 
 abbrev pub invariant-loop-r : goal.invariant-loop-r
 invariant-loop-r l =
     (l.wk ≡ WK (nibbles l.key) l.r) × Nibbles l.wk × (length l.wk ≡ 20) × (length l.keys ≡ 36) ×
-    ((j : ℕ) → j < l.r + 1 → key_words (get_or l.keys j 0) ≡ ResultKind (nibbles l.key) (suc j))
+    ((j : ℕ) → j < l.r + 1 → key_words (get_or l.keys j 0) ≡ RK (nibbles l.key) (suc j))
