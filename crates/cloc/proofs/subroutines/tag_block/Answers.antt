@@ -14,7 +14,7 @@ returns-then-text-eq0 g c =
     let z = c.if-text-eq0.true in
     record {
       answers = c.run_one.ensures.answers;
-      state = c.run_one.ensures.block ∙ ap E c.apply_g1.ensures.block ∙ sym (tag_none b hb E c.args.state.now c.args.text.now z);
+      state = let n = tag_none b hb E c.args.state.now c.args.text.now z in cc;
       ran = ran_as (ap (λ k. 1 + k) (sym (ap (parts b) z ∙ parts_none b hb))) c.run_one.ensures.ran;
     }
 
