@@ -13,13 +13,16 @@ import re
 import sys
 
 PUBLISHED = {"addRoundKey", "sBoxLayer", "pLayer"}
-# Names that would fall together with another, and what they are called instead: by the folder in which it is so.
+# Names that would fall together with another, and what they are called instead, and an alias: by the folder in which it is so.
 APART = {
     "crates/": {"bit-and": "bit_of_and", "bit-or": "bit_of_or", "bit-xor": "bit_of_xor"},
     "crates/ledger/": {"is_open": "open_by_test"},
     "crates/present/": {"round-key": "round_key_of"},
     "crates/aes_circuit/": {"in-plane": "in_plane_at"},
+    "crates/receiver/": {"leftAfterMode": "left_after_mode"},
 }
+# A name of TWINE's article that port.py takes for one of the library's.
+RESTORED = {"crates/twine": (r"\bResultKind\b", "RK")}
 WORD = r"[^\s(){}\[\];,.:\"`«»|]+"
 TOKEN = re.compile(r"(?<![^\s(){}\[\];,.:\"`«»|])(" + WORD + r")(?![^\s(){}\[\];,.:\"`«»|])")
 SIGNATURE = re.compile(r"^(\s*)(?:(?:abbrev|unfoldable|pub)\s+)*(" + WORD + r")((?:\s+[({][^:]*:[^)}]*[)}])*)\s+:(?:\s+(\S+)|\s*$)")
@@ -108,6 +111,9 @@ def main():
             if p.startswith(folder):
                 here.update(names)
         new = "".join(respelled(l, here, p.endswith(".rt")) for l in t.splitlines(keepends=True))
+        for folder, (taken_for, name) in RESTORED.items():
+            if p.startswith(folder):
+                new = re.sub(taken_for, name, new)
         if new != t:
             open(p, "w", encoding="utf-8").write(new)
     pages = sorted(glob.glob("docs/*.md")) + ["README.md"]

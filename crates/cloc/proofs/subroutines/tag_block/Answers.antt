@@ -1,5 +1,6 @@
 use Rattle.std.proofs.Common.{◌≡◌, ◌+◌, ◌-◌, ◌<◌, length, sym, ap, ◌∙◌, arith}
 use Rattle.blocks.specs.Blocks.{parts, blocks, last}
+use Rattle.blocks.specs.Words.{f2}
 use Rattle.blocks.proofs.Cuts.{parts_more, parts_none}
 use Rattle.blocks.proofs.Spends.{width_bounds, ran_as, ran_then}
 use Rattle.cloc.specs.Cloc.{is_full}
@@ -34,7 +35,8 @@ returns g c =
     let p = parts b (length X) in
     let m = parts_more b (length X) hb h in
     let r = ran_then 1 (p - 1) hl (omega arith) r1 (ran_as (ap (λ k. parts k (length X) - 1) r1.width) r2) in
-    let z = padded_as b _ E _ _ _ X _ r1.width r1.same (c.run_one-2.ensures.block ∙ ap E c.apply_f2.ensures) c.absorb_ozp.ensures.state in
+    let s : c.run_one-2.new.block ≡ E (f2 V) = cc in
+    let z = padded_as b _ E _ _ _ X _ r1.width r1.same s c.absorb_ozp.ensures.state in
     let o = c.in_ok-full.ensures.answers in
     let f : full ≡ is_full (g.C.Cipher.width c.run_one-2.new.cipher) (last (blocks (g.C.Cipher.width c.run_one-2.new.cipher) X)) = cc in
     record {
