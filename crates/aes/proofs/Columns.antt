@@ -1,14 +1,15 @@
 -- The columns of the state after a round, as words, by the tables.
-use Rattle.std.proofs.Common.{◌≡◌, ℕ, ◌+◌, ◌*◌, ◌/◌, ◌%◌, ◌^◌, ◌<◌, ◌≤◌, T, leb, List, [], ◌∷◌, map, length, get_or, sym, ap, ◌∙◌, subst, ⊎_elim, arith}
+use Rattle.std.proofs.Common.{◌≡◌, ℕ, ◌+◌, ◌*◌, ◌/◌, ◌%◌, ◌^◌, ◌<◌, ◌≤◌, T, leb, List, [], ◌∷◌, map, length, get_or, sym, refl, ap, ◌∙◌, subst, ⊎_elim, arith}
 use lib.Bits.{xor_shr, xor_mod}
 use Rattle.std.specs.List.{range_with_len}
-use Rattle.std.proofs.lemmas.List.FromFn.{get_or-map-range_with_len}
+use Rattle.std.proofs.lemmas.List.FromFn.{get_or-map-range_with_len, fill_by_all}
 use Rattle.std.proofs.lemmas.List.{get_or_past}
 use Rattle.std.proofs.lemmas.Bool.{cases_lt}
 use Rattle.bits.proofs.Table.{both, every, table_le}
 use Rattle.aes.specs.Field.{x_times, times, ◌•◌, ◌⊕◌}
 use Rattle.aes.specs.Sbox.{S, sbox}
-use Rattle.aes.specs.Fips197.{byte, pack, key_word, mixed, state_of, SubBytes, ShiftRows, MixColumns, AddRoundKey}
+use Rattle.aes.specs.Fips197.{byte, pack, key_word, mixed, state_of}
+use Rattle.aes.specs.Rounds.{columns_of, plus, round, last_round}
 use Rattle.aes.specs.Tables.{te0, te1, te2, te3}
 
 -- what S and the two products of MixColumns give is a byte: by computation at each byte
@@ -79,43 +80,48 @@ table_bytes p q u v k =
     )
 
 -- a column after a round, from the columns before it, and after the last round
-abbrev pub mixed_column : ℕ → ℕ → ℕ → ℕ → ℕ → ℕ
+abbrev mixed_column : ℕ → ℕ → ℕ → ℕ → ℕ → ℕ
 mixed_column a b c d k = te0 (byte a 0) ⊕ te1 (byte b 1) ⊕ te2 (byte c 2) ⊕ te3 (byte d 3) ⊕ k
 
-abbrev pub last_column : ℕ → ℕ → ℕ → ℕ → ℕ → ℕ
+abbrev last_column : ℕ → ℕ → ℕ → ℕ → ℕ → ℕ
 last_column a b c d k = pack (S (byte a 0)) (S (byte b 1)) (S (byte c 2)) (S (byte d 3)) ⊕ k
 
 -- a state from the bytes of its columns
 gathered :
     (a b c d : ℕ) {p q r s e f g h i j k l t u v w : ℕ} → Bytes a p q r s → Bytes b e f g h → Bytes c i j k l → Bytes d t u v w →
-    p ∷ q ∷ r ∷ s ∷ e ∷ f ∷ g ∷ h ∷ i ∷ j ∷ k ∷ l ∷ t ∷ u ∷ v ∷ w ∷ [] ≡ state_of a b c d
+    p ∷ q ∷ r ∷ s ∷ e ∷ f ∷ g ∷ h ∷ i ∷ j ∷ k ∷ l ∷ t ∷ u ∷ v ∷ w ∷ [] ≡ state_of (a ∷ b ∷ c ∷ d ∷ [])
 gathered a b c d x y z o = cc
 
-pub start_is :
-    (w s : List ℕ) → ((i : ℕ) → get_or s i 0 < 256) →
-    AddRoundKey w 0 s ≡ state_of (key_word s 0 ⊕ get_or w 0 0) (key_word s 1 ⊕ get_or w 1 0) (key_word s 2 ⊕ get_or w 2 0) (key_word s 3 ⊕ get_or w 3 0)
-start_is w s small =
+-- the columns of a state give it back
+pub columns_back : (s : List ℕ) → length s ≡ 16 → ((i : ℕ) → get_or s i 0 < 256) → state_of (columns_of s) ≡ s
+columns_back s n small =
     let le : (i : ℕ) → get_or s i 0 ≤ 255 = λ i. omega (arith, small i) in
-    let column : (c : ℕ) → Bytes (key_word s c ⊕ get_or w c 0) (get_or s (4 * c) 0 ⊕ byte (get_or w c 0) 0) (get_or s (4 * c + 1) 0 ⊕ byte (get_or w c 0) 1) (get_or s (4 * c + 2) 0 ⊕ byte (get_or w c 0) 2) (get_or s (4 * c + 3) 0 ⊕ byte (get_or w c 0) 3)
-    = λ c. added_bytes (get_or s (4 * c) 0) (get_or s (4 * c + 1) 0) (get_or s (4 * c + 2) 0) (get_or s (4 * c + 3) 0) (get_or w c 0) (le (4 * c)) (le (4 * c + 1)) (le (4 * c + 2)) (le (4 * c + 3)) in
-    gathered _ _ _ _ (column 0) (column 1) (column 2) (column 3)
+    let column : (c : ℕ) → Bytes (key_word s c) (get_or s (4 * c) 0) (get_or s (4 * c + 1) 0) (get_or s (4 * c + 2) 0) (get_or s (4 * c + 3) 0)
+    = λ c. pack_bytes (get_or s (4 * c) 0) (get_or s (4 * c + 1) 0) (get_or s (4 * c + 2) 0) (get_or s (4 * c + 3) 0) (le (4 * c)) (le (4 * c + 1)) (le (4 * c + 2)) (le (4 * c + 3)) in
+    sym (fill_by_all (λ i. get_or s i 0) s 16 0 n (λ k h. refl) ∙ gathered _ _ _ _ (column 0) (column 1) (column 2) (column 3))
 
-pub round_is :
-    (w : List ℕ) (n a b c d : ℕ) →
-    AddRoundKey w n (MixColumns (ShiftRows (SubBytes (state_of a b c d)))) ≡
-    state_of (mixed_column a b c d (get_or w (4 * n + 0) 0)) (mixed_column b c d a (get_or w (4 * n + 1) 0)) (mixed_column c d a b (get_or w (4 * n + 2) 0)) (mixed_column d a b c (get_or w (4 * n + 3) 0))
-round_is w n a b c d =
-    gathered _ _ _ _ (table_bytes (byte a 0) (byte b 1) (byte c 2) (byte d 3) (get_or w (4 * n + 0) 0))
-    (table_bytes (byte b 0) (byte c 1) (byte d 2) (byte a 3) (get_or w (4 * n + 1) 0))
-    (table_bytes (byte c 0) (byte d 1) (byte a 2) (byte b 3) (get_or w (4 * n + 2) 0))
-    (table_bytes (byte d 0) (byte a 1) (byte b 2) (byte c 3) (get_or w (4 * n + 3) 0))
+-- the state of the columns a to d and a round key i to l, after each kind of step
+module _ (a b c d i j k l : ℕ) where
+  pub plus_is : state_of ((a ⊕ i) ∷ (b ⊕ j) ∷ (c ⊕ k) ∷ (d ⊕ l) ∷ []) ≡ plus (state_of (a ∷ b ∷ c ∷ d ∷ [])) (state_of (i ∷ j ∷ k ∷ l ∷ []))
+  plus_is =
+      let sum : (x y : ℕ) → Bytes (x ⊕ y) (byte x 0 ⊕ byte y 0) (byte x 1 ⊕ byte y 1) (byte x 2 ⊕ byte y 2) (byte x 3 ⊕ byte y 3)
+      = λ x y. (byte_xor x y 24, byte_xor x y 16, byte_xor x y 8, byte_xor x y 0) in
+      sym (gathered _ _ _ _ (sum a i) (sum b j) (sum c k) (sum d l))
 
-pub last_is :
-    (w : List ℕ) (a b c d : ℕ) →
-    AddRoundKey w 10 (ShiftRows (SubBytes (state_of a b c d))) ≡
-    state_of (last_column a b c d (get_or w 40 0)) (last_column b c d a (get_or w 41 0)) (last_column c d a b (get_or w 42 0)) (last_column d a b c (get_or w 43 0))
-last_is w a b c d =
-    let sub : (p q u v k : ℕ) → Bytes (pack (S p) (S q) (S u) (S v) ⊕ k) (S p ⊕ byte k 0) (S q ⊕ byte k 1) (S u ⊕ byte k 2) (S v ⊕ byte k 3)
-    = λ p q u v k. added_bytes (S p) (S q) (S u) (S v) k (S_le p) (S_le q) (S_le u) (S_le v) in
-    gathered _ _ _ _ (sub (byte a 0) (byte b 1) (byte c 2) (byte d 3) (get_or w 40 0)) (sub (byte b 0) (byte c 1) (byte d 2) (byte a 3) (get_or w 41 0))
-    (sub (byte c 0) (byte d 1) (byte a 2) (byte b 3) (get_or w 42 0)) (sub (byte d 0) (byte a 1) (byte b 2) (byte c 3) (get_or w 43 0))
+  pub round_is :
+      state_of (mixed_column a b c d i ∷ mixed_column b c d a j ∷ mixed_column c d a b k ∷ mixed_column d a b c l ∷ []) ≡
+      round (state_of (i ∷ j ∷ k ∷ l ∷ [])) (state_of (a ∷ b ∷ c ∷ d ∷ []))
+  round_is =
+      sym
+      (gathered _ _ _ _ (table_bytes (byte a 0) (byte b 1) (byte c 2) (byte d 3) i) (table_bytes (byte b 0) (byte c 1) (byte d 2) (byte a 3) j)
+      (table_bytes (byte c 0) (byte d 1) (byte a 2) (byte b 3) k) (table_bytes (byte d 0) (byte a 1) (byte b 2) (byte c 3) l))
+
+  pub last_is :
+      state_of (last_column a b c d i ∷ last_column b c d a j ∷ last_column c d a b k ∷ last_column d a b c l ∷ []) ≡
+      last_round (state_of (i ∷ j ∷ k ∷ l ∷ [])) (state_of (a ∷ b ∷ c ∷ d ∷ []))
+  last_is =
+      let sub : (p q u v x : ℕ) → Bytes (pack (S p) (S q) (S u) (S v) ⊕ x) (S p ⊕ byte x 0) (S q ⊕ byte x 1) (S u ⊕ byte x 2) (S v ⊕ byte x 3)
+      = λ p q u v x. added_bytes (S p) (S q) (S u) (S v) x (S_le p) (S_le q) (S_le u) (S_le v) in
+      sym
+      (gathered _ _ _ _ (sub (byte a 0) (byte b 1) (byte c 2) (byte d 3) i) (sub (byte b 0) (byte c 1) (byte d 2) (byte a 3) j)
+      (sub (byte c 0) (byte d 1) (byte a 2) (byte b 3) k) (sub (byte d 0) (byte a 1) (byte b 2) (byte c 3) l))

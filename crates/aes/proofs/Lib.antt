@@ -1,3 +1,4 @@
+pub mod Inverse
 pub mod Columns
 pub mod Steps
-pub mod Inverse
+pub mod Words

@@ -1,62 +1,50 @@
--- One round of the cipher, and one word of the key expansion, as the loops take them.
-use Rattle.std.proofs.Common.{◌≡◌, ℕ, suc, ◌+◌, ◌-◌, ◌*◌, ◌<◌, ◌≤◌, List, [], ◌∷◌, ◌++◌, length, get_or, take, set, sym, refl, ap, ◌∙◌, add-one, arith}
-use Rattle.std.proofs.lemmas.List.FromFn.{fill_by_all}
-use Rattle.std.proofs.lemmas.List.{take_more_set, get_or-take, length-take-le}
-use Rattle.aes.specs.Field.{◌⊕◌}
-use Rattle.aes.specs.Fips197.{state_of, aes128, Cipher, KeyExpansion, rounds, AddRoundKey, MixColumns, ShiftRows, SubBytes, words, next, temp, key_word}
-use Rattle.aes.proofs.Columns.{mixed_column, last_column, start_is, round_is, last_is}
+-- The rounds of the cipher, as a loop takes them.
+use Rattle.std.proofs.Common.{◌≡◌, ℕ, ◌+◌, ◌<◌, List, [], ◌∷◌, map, length, get_or, take, drop, sym, refl, ap, ◌∙◌, ap₂, add-one, arith, length-take}
+use Rattle.std.proofs.lemmas.List.{length-map, get_or-map, get_or-take, get_or-drop}
+use Rattle.std.proofs.lemmas.List.FromFn.{fill_by_all, get_or-map-range_with_len}
+use Rattle.std.specs.List.{range_with_len}
+use Rattle.aes.specs.Fips197.{aes128, Cipher, KeyExpansion, state_of, rounds}
+use Rattle.aes.specs.Rounds.{round_keys, round_key, key_states, plus, round, last_round}
 
--- the key's own words, and one word more
-pub words_none : (key w : List ℕ) → length w ≡ 44 → ((j : ℕ) → j < 4 → get_or w j 0 ≡ key_word key j) → take 4 w ≡ words key 0
-unfolding words
-words_none key w l h =
-    fill_by_all (key_word key) (take 4 w) 4 0 (length-take-le 4 w (omega arith)) (λ k s. get_or-take 4 w k 0 s ∙ h k s)
+-- the round keys as states
+pub states_of : (w : List ℕ) (keys : List (List ℕ)) → keys ≡ round_keys w → map state_of keys ≡ key_states w
+unfolding round_keys key_states
+states_of w keys e = ap (map state_of) e
 
-pub words_more :
-    (key w : List ℕ) (i v : ℕ) → length w ≡ 44 → 4 ≤ i → i < 44 → take i w ≡ words key (i - 4) → v ≡ get_or w (i - 4) 0 ⊕ temp i (get_or w (i - 1) 0) →
-    take (i + 1) (set w i v) ≡ words key (i + 1 - 4)
-unfolding words next
-words_more key w i v l low high e f =
-    let n : i + 1 - 4 ≡ suc (i - 4) = omega arith in
-    let m : i - 4 + 4 ≡ i = omega arith in
-    let a = get_or-take i w (i - 4) 0 (omega arith) in
-    let b = get_or-take i w (i - 1) 0 (omega arith) in
-    let g : v ≡ next i (take i w) = f ∙ sym (ap (λ x. x ⊕ temp i (get_or (take i w) (i - 1) 0)) a ∙ ap (λ x. get_or w (i - 4) 0 ⊕ temp i x) b) in
-    take_more_set w i v (omega arith) ∙ ap (λ x. take i w ++ x ∷ []) g ∙ ap (λ t. t ++ next i t ∷ []) e
-    ∙ ap (λ x. words key (i - 4) ++ next x (words key (i - 4)) ∷ []) (sym m) ∙ sym (ap (words key) n)
+-- an element of a part that leaves out the first
+pub after_first : {X : Type 0} (xs : List X) (m i : ℕ) (d : X) → i < length (take m (drop 1 xs)) → get_or (take m (drop 1 xs)) i d ≡ get_or xs (1 + i) d
+after_first xs m i d h = let l : i < m = omega (arith, length-take m (drop 1 xs)) in get_or-take m (drop 1 xs) i d l ∙ get_or-drop 1 xs i d
 
-state_eq : {a b c d e f g h : ℕ} → a ≡ e → b ≡ f → c ≡ g → d ≡ h → state_of e f g h ≡ state_of a b c d
-state_eq x y z u = cc
+-- a round key as it stands among the others, where v says which state a key is; and the next
+module _ {X : Type 0} (v : X → List ℕ) (w : List ℕ) (keys : List X) (whole : map v keys ≡ key_states w) where
+  pub key_at : (i : ℕ) → i < 11 → (d : X) → v (get_or keys i d) ≡ round_key w i
+  unfolding key_states
+  key_at i h d =
+      let n : length keys ≡ 11 = sym (length-map keys v) ∙ ap length whole in
+      sym (get_or-map v keys i d (v d) (omega arith)) ∙ ap (λ l. get_or l i (v d)) whole ∙ get_or-map-range_with_len (round_key w) 0 11 i i (v d) h (omega arith)
 
-rounds_more : (w s : List ℕ) (i : ℕ) → rounds w s (i + 1) ≡ AddRoundKey w (i + 1) (MixColumns (ShiftRows (SubBytes (rounds w s i))))
+  pub next_at : (i : ℕ) → i < 10 → (d : X) → v (get_or keys (1 + i) d) ≡ round_key w (i + 1)
+  next_at i h d = let n : 1 + i ≡ i + 1 = omega arith in key_at (1 + i) (omega arith) d ∙ ap (round_key w) n
+
+-- a list of eleven keys by the states that they are; any element stands for what is past the end
+pub keys_are :
+    {X : Type 0} (v : X → List ℕ) (f : ℕ → List ℕ) (keys : List X) → length keys ≡ 11 → ((d : X) (i : ℕ) → i < 11 → v (get_or keys i d) ≡ f i) → map v keys ≡ map f (range_with_len 0 11)
+keys_are v f [] n at = absurd (omega arith)
+keys_are v f (k ∷ ks) n at =
+    fill_by_all f (map v (k ∷ ks)) 11 [] (length-map (k ∷ ks) v ∙ n) (λ i h. get_or-map v (k ∷ ks) i k [] (omega arith) ∙ at k i h)
+
+-- the state r after a step, from the state s before it and the round key k
+pub start_step : (w block s k r : List ℕ) → s ≡ block → k ≡ round_key w 0 → r ≡ plus s k → r ≡ rounds w block 0
 unfolding rounds
-rounds_more w s i = rw (add-one i) refl
+start_step w block s k r es ek er = er ∙ ap₂ plus es ek
 
--- the state after the first key, after one round more, and after the last round, of the columns a to d before it
-pub start_step :
-    (w s : List ℕ) → ((i : ℕ) → get_or s i 0 < 256) →
-    rounds w s 0 ≡ state_of (key_word s 0 ⊕ get_or w 0 0) (key_word s 1 ⊕ get_or w 1 0) (key_word s 2 ⊕ get_or w 2 0) (key_word s 3 ⊕ get_or w 3 0)
+rounds_more : (w block : List ℕ) (i : ℕ) → round (round_key w (i + 1)) (rounds w block i) ≡ rounds w block (i + 1)
 unfolding rounds
-start_step w s small = start_is w s small
+rounds_more w block i = rw (add-one i) refl
 
-module _ (w s : List ℕ) (i a b c d : ℕ) (inv : rounds w s i ≡ state_of a b c d) where
-  pub round_step :
-      rounds w s (i + 1) ≡
-      state_of (mixed_column a b c d (get_or w (4 * i + 4) 0)) (mixed_column b c d a (get_or w (4 * i + 4 + 1) 0))
-      (mixed_column c d a b (get_or w (4 * i + 4 + 2) 0)) (mixed_column d a b c (get_or w (4 * i + 4 + 3) 0))
-  round_step =
-      let k0 : 4 * i + 4 ≡ 4 * (i + 1) + 0 = omega arith in
-      let k1 : 4 * i + 4 + 1 ≡ 4 * (i + 1) + 1 = omega arith in
-      let k2 : 4 * i + 4 + 2 ≡ 4 * (i + 1) + 2 = omega arith in
-      let k3 : 4 * i + 4 + 3 ≡ 4 * (i + 1) + 3 = omega arith in
-      rounds_more w s i ∙ ap (λ t. AddRoundKey w (i + 1) (MixColumns (ShiftRows (SubBytes t)))) inv ∙ round_is w (i + 1) a b c d
-      ∙ state_eq (ap (λ k. mixed_column a b c d (get_or w k 0)) k0) (ap (λ k. mixed_column b c d a (get_or w k 0)) k1)
-      (ap (λ k. mixed_column c d a b (get_or w k 0)) k2) (ap (λ k. mixed_column d a b c (get_or w k 0)) k3)
+pub round_step : (w block s k r : List ℕ) (i : ℕ) → s ≡ rounds w block i → k ≡ round_key w (i + 1) → r ≡ round k s → r ≡ rounds w block (i + 1)
+round_step w block s k r i es ek er = er ∙ ap₂ round ek es ∙ rounds_more w block i
 
-  pub last_step :
-      (key : List ℕ) → w ≡ KeyExpansion key → i ≡ 9 →
-      aes128 key s ≡
-      state_of (last_column a b c d (get_or w 40 0)) (last_column b c d a (get_or w 41 0)) (last_column c d a b (get_or w 42 0)) (last_column d a b c (get_or w 43 0))
-  unfolding aes128 Cipher
-  last_step key k n =
-      ap (λ v. Cipher v s) (sym k) ∙ ap (λ t. AddRoundKey w 10 (ShiftRows (SubBytes t))) (ap (rounds w s) (sym n) ∙ inv) ∙ last_is w a b c d
+pub last_step : (key block s k r : List ℕ) → s ≡ rounds (KeyExpansion key) block 9 → k ≡ round_key (KeyExpansion key) 10 → r ≡ last_round k s → r ≡ aes128 key block
+unfolding aes128 Cipher
+last_step key block s k r es ek er = er ∙ ap₂ last_round ek es

@@ -20,8 +20,8 @@ abbrev pub state : (ℕ → ℕ → ℕ) → List ℕ
 state f = map (λ i. f (i % 4) (i / 4)) (range_with_len 0 16)
 
 -- the state whose columns are four words
-abbrev pub state_of : ℕ → ℕ → ℕ → ℕ → List ℕ
-state_of w0 w1 w2 w3 = state (λ r c. byte (slice_index (w0 ∷ w1 ∷ w2 ∷ w3 ∷ []) c) r)
+abbrev pub state_of : List ℕ → List ℕ
+state_of columns = state (λ r c. byte (slice_index columns c) r)
 
 -- 5.1.1: the S-box at each byte
 abbrev pub SubBytes : List ℕ → List ℕ

@@ -1,6 +1,8 @@
 #![tactic(auto)]
 
 pub mod aes128;
-mod rounds;
-mod schedule;
+pub mod expanded;
+pub mod rounds;
+pub mod schedule;
+pub mod state;
 pub mod tables;

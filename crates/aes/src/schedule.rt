@@ -1,8 +1,15 @@
 // The key expansion.
-ghost use Rattle.std.specs.Prelude.{◌≡◌, ◌+◌, ◌<◌, ◌≤◌, length, slice_index};
-ghost use Rattle.aes.specs.Fips197.{pack, RotWord, SubWord, Rcon, temp, KeyExpansion};
+ghost use Rattle.std.specs.Prelude.{◌≡◌};
+ghost use Rattle.aes.specs.Fips197.{RotWord, SubWord, KeyExpansion};
+ghost use Rattle.aes.specs.Rounds.{round_keys};
 
-use crate::tables::sub_byte;
+use crate::rounds::columns_of;
+
+// The S-box at each byte of a word, by a table or by a circuit.
+pub trait SubWords {
+    fn sub_word(word: u32) -> u32
+        ensures { result ≡ SubWord word };
+}
 
 const RCON: [u32; 10] = [
     0x0100_0000,
@@ -17,54 +24,23 @@ const RCON: [u32; 10] = [
     0x3600_0000,
 ];
 
-fn round_constant(j: usize) -> u32
-    requires { (0 < j) × (j ≤ 10) }
-    ensures { result ≡ Rcon j }
+// The eleven round keys, each from the one before it.
+pub fn key_expansion<S: SubWords>(key: &[u8; 16]) -> [[u32; 4]; 11]
+    ensures { result ≡ round_keys (KeyExpansion key.now) }
 {
-    RCON[j - 1]
-}
-
-// The word of the four bytes from a place on.
-pub(crate) fn word(bytes: &[u8], place: usize) -> u32
-    requires { place + 4 ≤ length bytes.now }
-    ensures { result ≡ pack (slice_index bytes.now place) (slice_index bytes.now (place + 1)) (slice_index bytes.now (place + 2)) (slice_index bytes.now (place + 3)) }
-{
-    u32::from_be_bytes([
-        bytes[place],
-        bytes[place + 1],
-        bytes[place + 2],
-        bytes[place + 3],
-    ])
-}
-
-fn sub_rot_word(w: u32) -> u32
-    ensures { result ≡ SubWord (RotWord w) }
-{
-    let [a, b, c, d] = w.to_be_bytes();
-    u32::from_be_bytes([sub_byte(b), sub_byte(c), sub_byte(d), sub_byte(a)])
-}
-
-// What the word i - 4 is added to, given the word i - 1.
-fn temp(i: usize, before: u32) -> u32
-    requires { (4 ≤ i) × (i < 44) }
-    ensures { result ≡ temp i before }
-{
-    if i % 4 == 0 {
-        sub_rot_word(before) ^ round_constant(i / 4)
-    } else {
-        before
+    let mut keys = [columns_of(key); 11];
+    for (round, constant) in RCON.iter().enumerate() {
+        let [a, b, c, d] = keys[round];
+        let e = a ^ S::sub_word(rot_word(d)) ^ *constant;
+        let f = b ^ e;
+        let g = c ^ f;
+        keys[round + 1] = [e, f, g, d ^ g];
     }
+    keys
 }
 
-pub(crate) fn key_expansion(key: &[u8; 16]) -> [u32; 44]
-    ensures { result ≡ KeyExpansion key.now }
+fn rot_word(word: u32) -> u32
+    ensures { result ≡ RotWord word }
 {
-    let mut w = [0; 44];
-    for c in 0..4 {
-        w[c] = word(key, 4 * c);
-    }
-    for i in 4..44 {
-        w[i] = w[i - 4] ^ temp(i, w[i - 1]);
-    }
-    w
+    word.rotate_left(8)
 }

@@ -3,7 +3,4 @@ pub mod PlaneBits
 pub mod PlaneBytes
 pub mod Mixing
 pub mod PlaneSteps
-pub mod WordBytes
-pub mod Words
-pub mod KeyPlanes
 pub mod Rounds

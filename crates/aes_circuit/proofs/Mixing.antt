@@ -10,7 +10,8 @@ use Rattle.bits.proofs.BytePlanes.{bits_of_byte, byte_lt, byte_xor}
 use Rattle.bits.proofs.Listed.{eight_eq, sixteen_eq}
 use Rattle.aes.specs.Field.{◌⊕◌, ◌•◌, x_times, times}
 use Rattle.aes.specs.Fips197.{mixed, MixColumns}
-use Rattle.aes_circuit.specs.Planes.{planes, plus, rows_on, doubled}
+use Rattle.aes.specs.Rounds.{plus}
+use Rattle.aes_circuit.specs.Planes.{planes, rows_on, doubled}
 
 -- the bits of x times a byte, of the bits of the byte
 abbrev doubled_bits : (ℕ → ℕ) → List ℕ

@@ -12,7 +12,8 @@ use Rattle.aes.specs.Field.{◌⊕◌}
 use Rattle.aes.specs.Sbox.{S}
 use Rattle.aes_circuit.specs.SboxCircuit.{sboxes}
 use Rattle.aes.specs.Fips197.{SubBytes, ShiftRows, MixColumns}
-use Rattle.aes_circuit.specs.Planes.{planes, bytes_of, plus, rows_on, doubled, packed, shifted, next, second}
+use Rattle.aes.specs.Rounds.{plus}
+use Rattle.aes_circuit.specs.Planes.{planes, bytes_of, rows_on, doubled, packed, shifted, next, second}
 use Rattle.aes_circuit.proofs.SboxLanes.{sboxes_lane}
 use Rattle.aes_circuit.proofs.PlaneBits.{plus_lane, packed_lane, shifted_lane, next_lane, second_lane}
 use Rattle.aes_circuit.proofs.Mixing.{doubled_lane, mix_is}

@@ -1,3 +1,2 @@
 pub mod SboxCircuit
 pub mod Planes
-pub mod RoundKeys

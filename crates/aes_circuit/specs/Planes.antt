@@ -6,7 +6,7 @@ use Rattle.bits.specs.Moves.{swap}
 use Rattle.bits.specs.Shifts.{Shift, stay, right, left, union}
 use Rattle.bits.specs.Swaps.{Swap, by}
 use Rattle.aes_circuit.specs.declared.planes.Planes.{Planes}
-use Rattle.aes.specs.Field.{◌⊕◌, x_times}
+use Rattle.aes.specs.Field.{x_times}
 use Rattle.aes.specs.Fips197.{at, state}
 
 -- the eight planes: plane j is the 16 lowest bits of word j
@@ -19,10 +19,6 @@ bytes_of even odd = map (lane (planes even odd)) (range_with_len 0 16)
 
 abbrev pub bytes : Planes → List ℕ
 bytes s = bytes_of s.even s.odd
-
--- the sum of two states
-abbrev pub plus : List ℕ → List ℕ → List ℕ
-plus s t = state (λ r c. at s r c ⊕ at t r c)
 
 -- each byte that of n rows further on in its column
 abbrev pub rows_on : ℕ → List ℕ → List ℕ

@@ -7,7 +7,9 @@ const ONES: u64 = 0xffff_ffff_ffff_ffff;
 
 // The linear layer at the top: a change of basis to a tower of fields. The words that the products take, nine and nine, and four sums.
 fn top(p: [u64; 8]) -> ([u64; 9], [u64; 9], [u64; 4])
-    ensures { (result.0 ≡ low p) × (result.1 ≡ high p) × (result.2 ≡ sums p) }
+    ensures low { result.0 ≡ low p }
+    ensures high { result.1 ≡ high p }
+    ensures sums { result.2 ≡ sums p }
 {
     let [x7, x6, x5, x4, x3, x2, x1, x0] = p;
     let y14 = x3 ^ x5;

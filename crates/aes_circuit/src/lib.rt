@@ -6,4 +6,3 @@ pub mod aes128;
 mod circuit;
 mod planes;
 pub mod sbox;
-mod schedule;

@@ -4,19 +4,23 @@ ghost use Rattle.bits.specs.Moves.{swap};
 ghost use Rattle.bits.specs.Shifts.{union};
 ghost use Rattle.bits.specs.Swaps.{swaps};
 ghost use Rattle.aes.specs.Fips197.{SubBytes, ShiftRows, MixColumns};
-ghost use Rattle.aes_circuit.specs.Planes.{inward, outward, shifted, next, second, packed, bytes, plus, rows_on, doubled};
+ghost use Rattle.aes.specs.Rounds.{plus};
+ghost use Rattle.aes_circuit.specs.Planes.{inward, outward, shifted, next, second, packed, bytes, bytes_of, rows_on, doubled};
 
 use crate::circuit::sboxes;
+use aes::rounds::state_of;
+use aes::state::State;
 
 // Plane j holds bit j of the sixteen bytes, that of byte i at its bit i. Four planes of 16 bits stand in a word, the lowest first: planes
 // 0, 2, 4 and 6 in `even`, the others in `odd`.
 #[derive(Clone, Copy)]
-pub(crate) struct Planes {
-    pub(crate) even: u64,
-    pub(crate) odd: u64,
+pub struct Planes {
+    even: u64,
+    odd: u64,
 }
 
 // Exchanges the bits under the mask with those so many places above them.
+// Kept: `present` has this on 64 bits; to be one, both would stand under a bound of five operators with their laws.
 fn delta_swap(x: u128, places: u32, mask: u128) -> u128
     requires { places < 128 }
     ensures { result ≡ swap 128 places mask x }
@@ -26,6 +30,7 @@ fn delta_swap(x: u128, places: u32, mask: u128) -> u128
 }
 
 // Takes bit j of byte i to its plane, by four exchanges of bits.
+// Kept: the four calls, here and on the way back, say no more than a loop over a table of places and masks would.
 fn into_planes(x: u128) -> u128
     ensures { result ≡ swaps 128 inward x }
 {
@@ -77,38 +82,43 @@ fn second(x: u64) -> u64
     ((x >> 2) & 0x3333_3333_3333_3333) | ((x << 2) & 0xcccc_cccc_cccc_cccc)
 }
 
-impl Planes {
-    pub(crate) fn of_bytes(block: &[u8]) -> Self
-        requires { length block.now ≡ 16 }
-        ensures { bytes result ≡ block.now }
-    {
-        let x = into_planes(u128::from_le_bytes([
-            block[0], block[1], block[2], block[3], block[4], block[5], block[6], block[7],
-            block[8], block[9], block[10], block[11], block[12], block[13], block[14], block[15],
-        ]));
+impl State for Planes {
+    ghost bytes = { λ s. bytes_of s.even s.odd };
+
+    fn of_bytes(block: &[u8; 16]) -> Self {
+        let x = into_planes(u128::from_le_bytes(*block));
         Planes {
             even: (x % (1 << 64)) as u64,
             odd: (x >> 64) as u64,
         }
     }
 
-    pub(crate) fn to_bytes(self) -> [u8; 16]
-        ensures { result ≡ bytes self }
-    {
+    fn of_words(columns: [u32; 4]) -> Self {
+        Planes::of_bytes(&state_of(columns))
+    }
+
+    fn to_bytes(self) -> [u8; 16] {
         let x = out_of_planes(((self.odd as u128) << 64) + self.even as u128);
         x.to_le_bytes()
     }
 
-    // The sum of two states, as when a round key is added.
-    pub(crate) fn plus(self, other: Planes) -> Self
-        ensures { bytes result ≡ plus (bytes self) (bytes other) }
-    {
+    fn plus(self, key: Planes) -> Self {
         Planes {
-            even: self.even ^ other.even,
-            odd: self.odd ^ other.odd,
+            even: self.even ^ key.even,
+            odd: self.odd ^ key.odd,
         }
     }
 
+    fn round(self, key: Planes) -> Self {
+        self.sub_bytes().shift_rows().mix_columns().plus(key)
+    }
+
+    fn last_round(self, key: Planes) -> Self {
+        self.sub_bytes().shift_rows().plus(key)
+    }
+}
+
+impl Planes {
     pub(crate) fn sub_bytes(self) -> Self
         ensures { bytes result ≡ SubBytes (bytes self) }
     {
@@ -130,6 +140,7 @@ impl Planes {
         }
     }
 
+    // Kept: this and the next two call one function on each word, which a helper that takes the function would say no plainer.
     pub(crate) fn shift_rows(self) -> Self
         ensures { bytes result ≡ ShiftRows (bytes self) }
     {

@@ -3,4 +3,5 @@
 #![tactic(auto)]
 
 pub mod ciphers;
+pub mod either;
 pub mod modes;

@@ -1,32 +1,13 @@
-// One of two modes: it means what the one that it holds means.
-ghost use Rattle.std.specs.Prelude.{◌≡◌, ◌<◌, ◌^◌};
-ghost use Rattle.any.specs.declared.modes.Either.TheVariants.{First, Second};
+// One of two modes is a mode.
+ghost use Rattle.std.specs.Prelude.{◌≡◌};
+ghost use Rattle.any.specs.declared.either.Either.TheVariants.{First, Second};
 ghost use Rattle.std.proofs.Common.{rules};
 
-use cipher::interface::Allowance;
+pub use crate::either::Either;
 use mode::count::RunCount;
 use mode::fault::ModeFault;
 use mode::interface::Mode;
 use mode::set::ParameterSet;
-
-#[derive(Drop)]
-pub enum Either<M, N> {
-    First(M),
-    Second(N),
-}
-
-impl<M: Mode, N: Mode> Allowance for Either<M, N> {
-    ghost remaining = { λ e. elim e [ First m ↦ M.Allowance.remaining m | Second m ↦ N.Allowance.remaining m ] };
-
-    ghost bounded = { Prim.search rules };
-
-    fn left(&self) -> u64 {
-        match self {
-            Either::First(m) => m.left(),
-            Either::Second(m) => m.left(),
-        }
-    }
-}
 
 impl<M: Mode, N: Mode> Mode for Either<M, N> {
     ghost meaning = { λ e. elim e [ First m ↦ M.Mode.meaning m | Second m ↦ N.Mode.meaning m ] };

@@ -1,8 +1,9 @@
 -- Blocks cut one at a time, put together again, and told apart from the last.
-use Rattle.std.proofs.Common.{◌≡◌, ℕ, zero, suc, ◌+◌, ◌-◌, ◌/◌, ◌<◌, ◌≤◌, min, List, [], ◌∷◌, ◌++◌, map, length, take, drop, sym, refl, ap, ◌∙◌, ⊎_elim, arith, length-append, length-drop, length-take}
-use native.Mathlib.Nat.{add-div_right, div-eq_of_lt}
+use Rattle.std.proofs.Common.{◌≡◌, ℕ, zero, suc, ◌+◌, ◌-◌, ◌*◌, ◌/◌, ◌%◌, ◌<◌, ◌≤◌, min, List, [], ◌∷◌, ◌++◌, map, length, take, drop, sym, refl, ap, ◌∙◌, ⊎_elim, arith, length-append, length-drop, length-take}
+use native.Mathlib.Nat.{add-div_right, div-eq_of_lt, div-eq_of_lt-le, add-mul, one-mul}
 use Rattle.std.proofs.lemmas.List.{append-nil, append_assoc, take_all, drop_all, take_at, drop_at, nil_from_length, take-append-drop}
 use Rattle.std.proofs.lemmas.Bool.{cases_lt}
+use Rattle.std.proofs.lemmas.Grind.{div_ceil_times}
 use Rattle.blocks.specs.Blocks.{Bytes, ◌⊕◌, parts, cut, blocks, front, last, join}
 use Rattle.blocks.specs.Chain.{chain}
 
@@ -24,6 +25,14 @@ parts_more b n hb hn = ⊎_elim few many (cases_lt n b)
     many h =
         let e : n + (b - 1) ≡ ((n - b) + (b - 1)) + b = omega arith in
         let t : parts b n ≡ parts b (n - b) + 1 = ap (λ x. x / b) e ∙ add-div_right ((n - b) + (b - 1)) hb in omega (arith, t)
+
+-- as many as n / b, and one where bytes are left over
+pub parts_ceil : (b n : ℕ) → 0 < b → parts b n ≡ n / b + min 1 (n % b)
+parts_ceil b n hb =
+    let k : ℕ = n / b + min 1 (n % b) in
+    let t = div_ceil_times n b hb in
+    let e : (k + 1) * b ≡ k * b + b = add-mul k 1 b ∙ ap (λ m. k * b + m) (one-mul b) in
+    div-eq_of_lt-le {k = k} b {m = n + (b - 1)} (omega (arith, t.1)) (omega (arith, t.0, e))
 
 pub parts_none : (b : ℕ) → 0 < b → parts b 0 ≡ 0
 parts_none b hb = div-eq_of_lt (omega arith)

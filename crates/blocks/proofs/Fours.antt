@@ -1,12 +1,11 @@
 -- Blocks of four words of q bytes: the tweaks are powers of f2, and words as numbers.
-use Rattle.std.proofs.Common.{◌≡◌, ℕ, zero, suc, ◌+◌, ◌-◌, ◌*◌, ◌/◌, ◌%◌, ◌<◌, ◌≤◌, min, ◌⊎◌, [], ◌∷◌, ◌++◌, length, get_or, take, drop, sym, refl, ap, ◌∙◌, inl, inr, ⊎_elim, mod-eq_of_lt, arith, length-append, length-drop, length-take}
+use Rattle.std.proofs.Common.{◌≡◌, ℕ, zero, suc, ◌+◌, ◌-◌, ◌*◌, ◌/◌, ◌%◌, ◌<◌, ◌≤◌, min, [], ◌∷◌, ◌++◌, length, get_or, take, drop, sym, refl, ap, ◌∙◌, ⊎_elim, arith, length-append, length-drop, length-take}
 use lib.Bits.{bit_xor, bit_or, xor_mod, xor_shr, or_mod, or_shr, or_zero_r}
-use Rattle.std.proofs.lemmas.List.{take_at, drop_at, take_all, take-append-drop, drop-drop, drop_more}
-use Rattle.std.proofs.lemmas.Nat.{mod-mul-add, div-mul-add, shr-shr}
+use Rattle.std.proofs.lemmas.List.{take_at, drop_at, take_all, take-append-drop, drop-drop}
 use Rattle.blocks.specs.Blocks.{Bytes, ◌⊕◌}
 use Rattle.blocks.specs.Pads.{fix1}
-use Rattle.blocks.specs.Words.{word, on_words, four, f1, f2, g1, h, power, little}
-use Rattle.blocks.proofs.Xors.{length_xor, xor_swaps, xor_mid, take_xor, drop_xor}
+use Rattle.blocks.specs.Words.{IsBlock, held, word, on_words, four, f1, f2, g1, h, power, little}
+use Rattle.blocks.proofs.Xors.{length_xor, xor_swaps, xor_mid, xor_append, take_xor}
 
 module _ (q : ℕ) (a b c d : Bytes) (la : length a ≡ q) (lb : length b ≡ q) (lc : length c ≡ q) (ld : length d ≡ q) where
   length_four : length (four a b c d) ≡ 4 * q
@@ -156,7 +155,7 @@ module _ (q : ℕ) where
   keeps_8 X e = keeps_4 (power 4 f2 X) (keeps_4 X e ∙ e) ∙ keeps_4 X e
 
 -- the same at the two widths
-module _ (X : Bytes) (w : (length X ≡ 8) ⊎ (length X ≡ 16)) where
+module _ (X : Bytes) (w : IsBlock X) where
   quartered : length X ≡ 4 * (length X / 4)
   quartered = ⊎_elim (λ e. omega arith) (λ e. omega arith) w
 
@@ -191,66 +190,62 @@ little_xor q m n =
     let all : little 4 (bit_xor m n) ≡ little 4 m ⊕ little 4 n = cc in
     ap (take q) all ∙ take_xor q (little 4 m) (little 4 n)
 
-module _ (q m n : ℕ) (M N : Bytes) (em : little q m ≡ M) (en : little q n ≡ N) where
-  xor_words : little q (bit_xor m n) ≡ M ⊕ N
-  xor_words = little_xor q m n ∙ ap (λ Z. Z ⊕ little q n) em ∙ ap (λ Z. M ⊕ Z) en
+xor_three : (q k m n : ℕ) → little q (bit_xor (bit_xor k m) n) ≡ (little q k ⊕ little q m) ⊕ little q n
+xor_three q k m n = little_xor q (bit_xor k m) n ∙ ap (λ Z. Z ⊕ little q n) (little_xor q k m)
 
 same_four : {a b c d a' b' c' d' : Bytes} → a ≡ a' → b ≡ b' → c ≡ c' → d ≡ d' → four a b c d ≡ four a' b' c' d'
 same_four p q r s = cc
 
--- the tweaks on words as numbers
-module _ (X : Bytes) (w1 w2 w3 w4 : ℕ) (e1 : little (length X / 4) w1 ≡ word 0 X) (e2 : little (length X / 4) w2 ≡ word 1 X) (e3 : little (length X / 4) w3 ≡ word 2 X) (e4 : little (length X / 4) w4 ≡ word 3 X) where
-  on_12 : little (length X / 4) (bit_xor w1 w2) ≡ word 0 X ⊕ word 1 X
-  on_12 = xor_words (length X / 4) w1 w2 (word 0 X) (word 1 X) e1 e2
+-- the tweaks on the words of a block
+module _ (q k m n r : ℕ) (le : q ≤ 4) where
+  l : (n : ℕ) → length (little q n) ≡ q
+  l n = length-take q (little 4 n) ∙ (let z : min q 4 ≡ q = omega arith in z)
 
-  on_23 : little (length X / 4) (bit_xor w2 w3) ≡ word 1 X ⊕ word 2 X
-  on_23 = xor_words (length X / 4) w2 w3 (word 1 X) (word 2 X) e2 e3
+  abbrev on : (Bytes → Bytes) → Bytes
+  on f = f (four (little q k) (little q m) (little q n) (little q r))
 
-  pub f1_stored : four (little (length X / 4) (bit_xor w1 w3)) (little (length X / 4) (bit_xor w2 w4)) (little (length X / 4) (bit_xor (bit_xor w1 w2) w3)) (little (length X / 4) (bit_xor (bit_xor w2 w3) w4)) ≡ f1 X
-  f1_stored = same_four
-      (xor_words (length X / 4) w1 w3 (word 0 X) (word 2 X) e1 e3)
-      (xor_words (length X / 4) w2 w4 (word 1 X) (word 3 X) e2 e4)
-      (xor_words (length X / 4) (bit_xor w1 w2) w3 (word 0 X ⊕ word 1 X) (word 2 X) on_12 e3)
-      (xor_words (length X / 4) (bit_xor w2 w3) w4 (word 1 X ⊕ word 2 X) (word 3 X) on_23 e4)
+  f1_held : four (little q (bit_xor k n)) (little q (bit_xor m r)) (little q (bit_xor (bit_xor k m) n)) (little q (bit_xor (bit_xor m n) r)) ≡ on f1
+  f1_held = same_four (little_xor q k n) (little_xor q m r) (xor_three q k m n) (xor_three q m n r) ∙ sym (f1_four q _ _ _ _ (l k) (l m) (l n) (l r))
 
-  pub f2_stored : four (little (length X / 4) w2) (little (length X / 4) w3) (little (length X / 4) w4) (little (length X / 4) (bit_xor w1 w2)) ≡ f2 X
-  f2_stored = same_four e2 e3 e4 on_12
+  f2_held : four (little q m) (little q n) (little q r) (little q (bit_xor k m)) ≡ on f2
+  f2_held = ap (four (little q m) (little q n) (little q r)) (little_xor q k m) ∙ sym (f2_four q _ _ _ _ (l k) (l m) (l n) (l r))
 
-  pub g1_stored : four (little (length X / 4) w3) (little (length X / 4) w4) (little (length X / 4) (bit_xor w1 w2)) (little (length X / 4) (bit_xor w2 w3)) ≡ g1 X
-  g1_stored = same_four e3 e4 on_12 on_23
+  g1_held : four (little q n) (little q r) (little q (bit_xor k m)) (little q (bit_xor m n)) ≡ on g1
+  g1_held = same_four refl refl (little_xor q k m) (little_xor q m n) ∙ sym (g1_four q _ _ _ _ (l k) (l m) (l n) (l r))
 
-  pub h_stored : four (little (length X / 4) (bit_xor w1 w2)) (little (length X / 4) (bit_xor w2 w3)) (little (length X / 4) (bit_xor w3 w4)) (little (length X / 4) (bit_xor (bit_xor w1 w2) w4)) ≡ h X
-  h_stored = same_four on_12 on_23
-      (xor_words (length X / 4) w3 w4 (word 2 X) (word 3 X) e3 e4)
-      (xor_words (length X / 4) (bit_xor w1 w2) w4 (word 0 X ⊕ word 1 X) (word 3 X) on_12 e4)
+  h_held : four (little q (bit_xor k m)) (little q (bit_xor m n)) (little q (bit_xor n r)) (little q (bit_xor (bit_xor k m) r)) ≡ on h
+  h_held = same_four (little_xor q k m) (little_xor q m n) (little_xor q n r) (xor_three q k m r) ∙ sym (h_four q _ _ _ _ (l k) (l m) (l n) (l r))
 
--- a block is its four words, and those of X ⊕ Y are the words of both put together
-four_words : (X : Bytes) → (length X ≡ 8) ⊎ (length X ≡ 16) → four (word 0 X) (word 1 X) (word 2 X) (word 3 X) ≡ X
-four_words X w = by_words (length X / 4) X (quartered X w) (λ Z. on_words four Z ≡ Z) (λ a b c d la lb lc ld. on_four (length X / 4) a b c d la lb lc ld four)
+quarters : (X : Bytes) → IsBlock X → (0 < length X / 4) × (length X / 4 ≤ 4)
+quarters X k = ⊎_elim (λ e. (omega arith, omega arith)) (λ e. (omega arith, omega arith)) k
 
-word_xor : (i : ℕ) (X Y : Bytes) → length Y ≡ length X → word i (X ⊕ Y) ≡ word i X ⊕ word i Y
-word_xor i X Y e =
-    ap (λ n. take (n / 4) (drop (i * (n / 4)) (X ⊕ Y))) (length_xor X Y)
-    ∙ ap (take (length X / 4)) (drop_xor (i * (length X / 4)) X Y)
-    ∙ take_xor (length X / 4) (drop (i * (length X / 4)) X) (drop (i * (length X / 4)) Y)
-    ∙ ap (λ n. word i X ⊕ take (n / 4) (drop (i * (n / 4)) Y)) (sym e)
+module _ (X w : Bytes) (k : IsBlock X) (e : held (length X / 4) w ≡ X) where
+  abbrev at : ℕ → ℕ
+  at i = get_or w i 0
 
-pub same_width : {m n : ℕ} → m ≡ n → (n ≡ 8) ⊎ (n ≡ 16) → (m ≡ 8) ⊎ (m ≡ 16)
-same_width l w = ⊎_elim (λ e. inl (l ∙ e)) (λ e. inr (l ∙ e)) w
+  pub f1_stored : held (length X / 4) (bit_xor (at 0) (at 2) ∷ bit_xor (at 1) (at 3) ∷ bit_xor (bit_xor (at 0) (at 1)) (at 2) ∷ bit_xor (bit_xor (at 1) (at 2)) (at 3) ∷ []) ≡ f1 X
+  f1_stored = f1_held (length X / 4) (at 0) (at 1) (at 2) (at 3) (quarters X k).1 ∙ ap f1 e
 
--- X ⊕ Y on words as numbers, at the width n of both
-module _ (n : ℕ) (X Y : Bytes) (w : (n ≡ 8) ⊎ (n ≡ 16)) (lx : length X ≡ n) (ly : length Y ≡ n) (a1 a2 a3 a4 b1 b2 b3 b4 : ℕ)
-    (e1 : little (length X / 4) a1 ≡ word 0 X) (e2 : little (length X / 4) a2 ≡ word 1 X) (e3 : little (length X / 4) a3 ≡ word 2 X) (e4 : little (length X / 4) a4 ≡ word 3 X)
-    (f1' : little (length Y / 4) b1 ≡ word 0 Y) (f2' : little (length Y / 4) b2 ≡ word 1 Y) (f3' : little (length Y / 4) b3 ≡ word 2 Y) (f4' : little (length Y / 4) b4 ≡ word 3 Y) where
-  xor_at : (i a b : ℕ) → little (length X / 4) a ≡ word i X → little (length Y / 4) b ≡ word i Y → little (n / 4) (bit_xor a b) ≡ word i (X ⊕ Y)
-  xor_at i a b e f =
-      xor_words (n / 4) a b (word i X) (word i Y) (ap (λ k. little (k / 4) a) (sym lx) ∙ e) (ap (λ k. little (k / 4) b) (sym ly) ∙ f)
-      ∙ sym (word_xor i X Y (ly ∙ sym lx))
+  pub f2_stored : held (length X / 4) (at 1 ∷ at 2 ∷ at 3 ∷ bit_xor (at 0) (at 1) ∷ []) ≡ f2 X
+  f2_stored = f2_held (length X / 4) (at 0) (at 1) (at 2) (at 3) (quarters X k).1 ∙ ap f2 e
 
-  pub xor_stored : four (little (n / 4) (bit_xor a1 b1)) (little (n / 4) (bit_xor a2 b2)) (little (n / 4) (bit_xor a3 b3)) (little (n / 4) (bit_xor a4 b4)) ≡ X ⊕ Y
-  xor_stored =
-      same_four (xor_at 0 a1 b1 e1 f1') (xor_at 1 a2 b2 e2 f2') (xor_at 2 a3 b3 e3 f3') (xor_at 3 a4 b4 e4 f4')
-      ∙ four_words (X ⊕ Y) (same_width (length_xor X Y ∙ lx) w)
+  pub g1_stored : held (length X / 4) (at 2 ∷ at 3 ∷ bit_xor (at 0) (at 1) ∷ bit_xor (at 1) (at 2) ∷ []) ≡ g1 X
+  g1_stored = g1_held (length X / 4) (at 0) (at 1) (at 2) (at 3) (quarters X k).1 ∙ ap g1 e
+
+  pub h_stored : held (length X / 4) (bit_xor (at 0) (at 1) ∷ bit_xor (at 1) (at 2) ∷ bit_xor (at 2) (at 3) ∷ bit_xor (bit_xor (at 0) (at 1)) (at 3) ∷ []) ≡ h X
+  h_stored = h_held (length X / 4) (at 0) (at 1) (at 2) (at 3) (quarters X k).1 ∙ ap h e
+
+-- exclusive or of blocks is that of their words
+pub held_xor : (q : ℕ) (x y : Bytes) →
+    held q (bit_xor (get_or x 0 0) (get_or y 0 0) ∷ bit_xor (get_or x 1 0) (get_or y 1 0) ∷ bit_xor (get_or x 2 0) (get_or y 2 0) ∷ bit_xor (get_or x 3 0) (get_or y 3 0) ∷ []) ≡ held q x ⊕ held q y
+held_xor q x y =
+    let w = λ (z : Bytes) (i : ℕ). little q (get_or z i 0) in
+    let l = λ (i : ℕ). length-take q (little 4 (get_or x i 0)) ∙ sym (length-take q (little 4 (get_or y i 0))) in
+    let s = λ (i : ℕ). little_xor q (get_or x i 0) (get_or y i 0) in
+    same_four (s 0) (s 1) (s 2) (s 3)
+    ∙ sym (xor_append (w x 0) (w y 0) (w x 1 ++ (w x 2 ++ w x 3)) (w y 1 ++ (w y 2 ++ w y 3)) (l 0)
+    ∙ ap (λ Z. (w x 0 ⊕ w y 0) ++ Z) (xor_append (w x 1) (w y 1) (w x 2 ++ w x 3) (w y 2 ++ w y 3) (l 1)
+    ∙ ap (λ Z. (w x 1 ⊕ w y 1) ++ Z) (xor_append (w x 2) (w y 2) (w x 3) (w y 3) (l 2))))
 
 -- fix1 on the first word
 take_fix1 : (q : ℕ) (X : Bytes) → take q (fix1 X) ≡ fix1 (take q X)
@@ -271,72 +266,8 @@ fix1_append : (P Q : Bytes) → 0 < length P → fix1 (P ++ Q) ≡ fix1 P ++ Q
 fix1_append [] Q h = absurd (omega arith)
 fix1_append (x ∷ P) Q h = refl
 
-pub fix1_stored : (n w1 w2 w3 w4 : ℕ) (X : Bytes) → (n ≡ 8) ⊎ (n ≡ 16) → four (little (n / 4) w1) (little (n / 4) w2) (little (n / 4) w3) (little (n / 4) w4) ≡ X →
-    four (little (n / 4) (bit_or w1 128)) (little (n / 4) w2) (little (n / 4) w3) (little (n / 4) w4) ≡ fix1 X
-fix1_stored n w1 w2 w3 w4 X w e =
-    let q = n / 4 in
-    let h : 0 < length (little q w1) = ⊎_elim (λ k. let z : q ≡ 2 = omega arith in rw z (omega arith)) (λ k. let z : q ≡ 4 = omega arith in rw z (omega arith)) w in
-    ap (λ Z. four Z (little q w2) (little q w3) (little q w4)) (little_or q w1) ∙ sym (fix1_append (little q w1) (little q w2 ++ (little q w3 ++ little q w4)) h) ∙ ap fix1 e
-
--- a block whose words are these numbers
-pub words_stored : (n w1 w2 w3 w4 : ℕ) (X : Bytes) → (n ≡ 8) ⊎ (n ≡ 16) → length X ≡ n →
-    little (length X / 4) w1 ≡ word 0 X → little (length X / 4) w2 ≡ word 1 X → little (length X / 4) w3 ≡ word 2 X → little (length X / 4) w4 ≡ word 3 X →
-    four (little (n / 4) w1) (little (n / 4) w2) (little (n / 4) w3) (little (n / 4) w4) ≡ X
-words_stored n w1 w2 w3 w4 X w l e1 e2 e3 e4 =
-    ap (λ k. four (little (k / 4) w1) (little (k / 4) w2) (little (k / 4) w3) (little (k / 4) w4)) (sym l)
-    ∙ same_four e1 e2 e3 e4 ∙ four_words X (same_width l w)
-
--- the bytes of a word, one by one
-take_2 : (X : Bytes) (k : ℕ) → k + 2 ≤ length X → take 2 (drop k X) ≡ get_or X k 0 ∷ get_or X (k + 1) 0 ∷ []
-take_2 X k h = ap (take 2) (drop_more X k 0 (omega arith) ∙ ap (λ Z. get_or X k 0 ∷ Z) (drop_more X (k + 1) 0 (omega arith)))
-
-take_4 : (X : Bytes) (k : ℕ) → k + 4 ≤ length X → take 4 (drop k X) ≡ get_or X k 0 ∷ get_or X (k + 1) 0 ∷ get_or X (k + 2) 0 ∷ get_or X (k + 3) 0 ∷ []
-take_4 X k h =
-    let d1 : drop (k + 1) X ≡ get_or X (k + 1) 0 ∷ drop (k + 2) X = drop_more X (k + 1) 0 (omega arith) ∙ ap (λ n. get_or X (k + 1) 0 ∷ drop n X) (let z : k + 1 + 1 ≡ k + 2 = omega arith in z) in
-    let d2 : drop (k + 2) X ≡ get_or X (k + 2) 0 ∷ drop (k + 3) X = drop_more X (k + 2) 0 (omega arith) ∙ ap (λ n. get_or X (k + 2) 0 ∷ drop n X) (let z : k + 2 + 1 ≡ k + 3 = omega arith in z) in
-    let d3 = drop_more X (k + 3) 0 (omega arith) in
-    ap (take 4) (drop_more X k 0 (omega arith) ∙ ap (λ Z. get_or X k 0 ∷ Z) (d1 ∙ ap (λ Z. get_or X (k + 1) 0 ∷ Z) (d2 ∙ ap (λ Z. get_or X (k + 2) 0 ∷ Z) d3)))
-
--- the bytes of a number that is made of bytes
-module _ (r y x : ℕ) (h : x < 256) (e : r ≡ y * 256 + x) where
-  low : r % 256 ≡ x
-  low = ap (λ z. z % 256) e ∙ mod-mul-add y 256 x h
-
-  high : r / 256 ≡ y
-  high = ap (λ z. z / 256) e ∙ div-mul-add y 256 x h
-
-little_4 : (r a b c d : ℕ) → a < 256 → b < 256 → c < 256 → d < 256 → r ≡ a + b * 256 + c * 65536 + d * 16777216 → little 4 r ≡ a ∷ b ∷ c ∷ d ∷ []
-little_4 r a b c d ha hb hc hd s =
-    let y2 : ℕ = d * 256 + c in
-    let y1 : ℕ = y2 * 256 + b in
-    let t : r ≡ y1 * 256 + a = omega arith in
-    let d1 : r / 256 ≡ y1 = high r y1 a ha t in
-    let d2 : r / 65536 ≡ y2 = sym (shr-shr r 8 8) ∙ high (r / 256) y2 b hb d1 in
-    let d3 : r / 16777216 ≡ d = sym (shr-shr r 16 8) ∙ high (r / 65536) d c hc d2 in
-    let e0 : r % 256 ≡ a = low r y1 a ha t in
-    let e1 : r / 256 % 256 ≡ b = low (r / 256) y2 b hb d1 in
-    let e2 : r / 65536 % 256 ≡ c = low (r / 65536) d c hc d2 in
-    let e3 : r / 16777216 % 256 ≡ d = ap (λ z. z % 256) d3 ∙ mod-eq_of_lt hd in
-    cc
-
-module _ (X : Bytes) (i r : ℕ) (hi : i < 4) where
-  pub word_4 : length X ≡ 16 → get_or X (4 * i) 0 < 256 → get_or X (4 * i + 1) 0 < 256 → get_or X (4 * i + 2) 0 < 256 → get_or X (4 * i + 3) 0 < 256 →
-      r ≡ get_or X (4 * i) 0 + get_or X (4 * i + 1) 0 * 256 + get_or X (4 * i + 2) 0 * 65536 + get_or X (4 * i + 3) 0 * 16777216 → little (length X / 4) r ≡ word i X
-  word_4 e h0 h1 h2 h3 s =
-      ap (λ n. little (n / 4) r) e ∙ little_4 r _ _ _ _ h0 h1 h2 h3 s ∙ sym (take_4 X (4 * i) (omega arith))
-      ∙ ap (λ n. take 4 (drop n X)) (let z : 4 * i ≡ i * 4 = omega arith in z) ∙ ap (λ n. take (n / 4) (drop (i * (n / 4)) X)) (sym e)
-
-  pub word_2 : length X ≡ 8 → get_or X (2 * i) 0 < 256 → get_or X (2 * i + 1) 0 < 256 →
-      r ≡ get_or X (2 * i) 0 + get_or X (2 * i + 1) 0 * 256 + 0 * 65536 + 0 * 16777216 → little (length X / 4) r ≡ word i X
-  word_2 e h0 h1 s =
-      ap (λ n. little (n / 4) r) e ∙ ap (take 2) (little_4 r _ _ 0 0 h0 h1 (omega arith) (omega arith) s) ∙ sym (take_2 X (2 * i) (omega arith))
-      ∙ ap (λ n. take 2 (drop n X)) (let z : 2 * i ≡ i * 2 = omega arith in z) ∙ ap (λ n. take (n / 4) (drop (i * (n / 4)) X)) (sym e)
-
--- sixteen bytes of four words
-abbrev bytes : Bytes → Bytes
-bytes r = get_or r 0 0 ∷ get_or r 1 0 ∷ get_or r 2 0 ∷ get_or r 3 0 ∷ []
-
-pub stored : (n w1 w2 w3 w4 : ℕ) (R r1 r2 r3 r4 : Bytes) → n ≡ 16 → r1 ≡ little 4 w1 → r2 ≡ little 4 w2 → r3 ≡ little 4 w3 → r4 ≡ little 4 w4 →
-    R ≡ four (bytes r1) (bytes r2) (bytes r3) (bytes r4) → R ≡ four (little (n / 4) w1) (little (n / 4) w2) (little (n / 4) w3) (little (n / 4) w4)
-stored n w1 w2 w3 w4 R r1 r2 r3 r4 e e1 e2 e3 e4 s =
-    s ∙ same_four (ap bytes e1) (ap bytes e2) (ap bytes e3) (ap bytes e4) ∙ ap (λ k. four (little (k / 4) w1) (little (k / 4) w2) (little (k / 4) w3) (little (k / 4) w4)) (sym e)
+pub held_fix1 : (q : ℕ) (x : Bytes) → 0 < q → held q (bit_or (get_or x 0 0) 128 ∷ get_or x 1 0 ∷ get_or x 2 0 ∷ get_or x 3 0 ∷ []) ≡ fix1 (held q x)
+held_fix1 q x h =
+    let w = λ (i : ℕ). little q (get_or x i 0) in
+    let l : 0 < length (w 0) = omega (arith, length-take q (little 4 (get_or x 0 0))) in
+    ap (λ Z. four Z (w 1) (w 2) (w 3)) (little_or q (get_or x 0 0)) ∙ sym (fix1_append (w 0) (w 1 ++ (w 2 ++ w 3)) l)

@@ -2,9 +2,9 @@ pub mod Xors
 pub mod Cuts
 pub mod Spends
 pub mod Undone
-pub mod Tagged
 pub mod Turns
 pub mod Padded
 pub mod Fours
 pub mod Lengths
 pub mod Same
+pub mod Tagged

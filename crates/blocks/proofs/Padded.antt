@@ -1,9 +1,11 @@
 -- What the steps on one block leave.
-use Rattle.std.proofs.Common.{◌≡◌, ℕ, zero, suc, ◌+◌, ◌-◌, ◌/◌, ◌%◌, ◌<◌, ◌≤◌, ◌⊎◌, [], ◌∷◌, ◌++◌, length, get_or, take, drop, set, replicate, sym, refl, ap, ◌∙◌, inl, inr, ⊎_elim, add-one, arith, length-append, length-drop, length-set, length-take}
+use Rattle.std.proofs.Common.{◌≡◌, ℕ, zero, suc, ◌+◌, ◌-◌, ◌/◌, ◌%◌, ◌<◌, ◌≤◌, min, ◌^◌, [], ◌∷◌, ◌++◌, length, get_or, take, drop, set, replicate, sym, refl, ap, ◌∙◌, ⊎_elim, arith, length-append, length-drop, length-set, length-take}
 use lib.ListN.{length-replicate}
+use native.Mathlib.Nat.{pow-succ', div-div-eq-div-mul, div-eq_of_lt, pow-le-pow_right}
+use Rattle.std.specs.Int.{byte_at, bytes_high_first}
 use lib.Bits.{bit_xor}
 use borrow.Rule.Slice.PartMut.{put_mid}
-use Rattle.std.proofs.lemmas.List.{append-nil, append_assoc, take_more, take_more_set, take-set, drop-set, drop_more, take-append-drop, take-replicate, replicate_more, nil_from_length, take_all, drop_all, set_at}
+use Rattle.std.proofs.lemmas.List.{append-nil, append_assoc, take_more_set, take-append-drop, take-replicate, nil_from_length, take_all, drop_all, get_or_at, set_at}
 use Rattle.std.proofs.lemmas.Bool.{cases_lt, lt-ltb, le-ltb}
 use Rattle.blocks.specs.Blocks.{Bytes, ◌⊕◌}
 use Rattle.blocks.specs.Pads.{ozp, zpp, str}
@@ -74,57 +76,69 @@ pub length_str : (b n : ℕ) → length (str b n) ≡ b
 length_str zero n = refl
 length_str (suc b) n = length-append (str b (n / 256)) (n % 256 ∷ []) ∙ (let q = length_str b (n / 256) in let z : length (str b (n / 256)) + 1 ≡ suc b = omega arith in z)
 
--- the last byte of the front gets the lowest byte of the number
-pub str_turn : (B : Bytes) (i n : ℕ) → 0 < i → i ≤ length B →
-    (take (i - 1) (set B (i - 1) (bit_xor (get_or B (i - 1) 0) (n % 256))) ⊕ str (i - 1) (n / 256)) ++ drop (i - 1) (set B (i - 1) (bit_xor (get_or B (i - 1) 0) (n % 256)))
-    ≡ (take i B ⊕ str i n) ++ drop i B
-str_turn B i n hi hB =
-    let j = i - 1 in
-    let v = bit_xor (get_or B j 0) (n % 256) in
-    let ei : suc j ≡ i = omega arith in
-    let ej : j + 1 ≡ i = omega arith in
-    let lj : j < length B = omega arith in
-    let lt : length (take j B) ≡ length (str j (n / 256)) = (let q = length-take j B in let r = length_str j (n / 256) in omega arith) in
-    let head : take i B ⊕ str i n ≡ (take j B ⊕ str j (n / 256)) ++ (v ∷ []) =
-    ap (λ k. take i B ⊕ str k n) (sym ei) ∙ ap (λ k. take k B ⊕ str (suc j) n) (sym ej) ∙ ap (λ Z. Z ⊕ str (suc j) n) (take_more B j 0 lj)
-    ∙ xor_append (take j B) (str j (n / 256)) (get_or B j 0 ∷ []) (n % 256 ∷ []) lt in
-    ap (λ Z. (Z ⊕ str j (n / 256)) ++ drop j (set B j v)) (take-set B j v)
-    ∙ ap (λ Z. (take j B ⊕ str j (n / 256)) ++ Z) (drop-set B j v lj ∙ ap (λ k. v ∷ drop k B) ej)
-    ∙ sym (append_assoc (take j B ⊕ str j (n / 256)) (v ∷ []) (drop i B))
-    ∙ ap (λ Z. Z ++ drop i B) (sym head)
-
--- no bits are left of the number, or no bytes to put them in
-pub str_end : (B : Bytes) (i n : ℕ) → (i ≡ 0) ⊎ (n ≡ 0) → (take i B ⊕ str i n) ++ drop i B ≡ B
-str_end B i n (inl e) = ap (λ k. (take k B ⊕ str k n) ++ drop k B) e
-str_end B i n (inr e) = ap (λ k. (take i B ⊕ str i k) ++ drop i B) e ∙ ap (λ Z. (take i B ⊕ Z) ++ drop i B) (zeros i) ∙ ap (λ Z. Z ++ drop i B) (xor_zeros i (take i B)) ∙ take-append-drop i B
+-- the bytes of a number one more: the lowest stands behind those of the rest
+high_more : (k n : ℕ) → bytes_high_first (suc k) n ≡ bytes_high_first k (n / 256) ++ (n % 256 ∷ [])
+high_more zero n = refl
+high_more (suc k) n = ap (λ z. z ∷ bytes_high_first (suc k) n) (shifted k) ∙ ap (λ Z. byte_at k (n / 256) ∷ Z) (high_more k n)
   where
-    zeros : (b : ℕ) → str b 0 ≡ replicate b 0
-    zeros zero = refl
-    zeros (suc b) = ap (λ Z. Z ++ (0 ∷ [])) (zeros b) ∙ replicate_more b 0 ∙ ap (λ k. replicate k 0) (add-one b)
+    shifted : (k : ℕ) → byte_at (suc k) n ≡ byte_at k (n / 256)
+    shifted zero = refl
+    shifted (suc k) = ap (λ z. n / z % 256) (pow-succ' 256 (suc k)) ∙ ap (λ z. z % 256) (sym (div-div-eq-div-mul n 256 (256 ^ suc k)))
 
--- each byte moves one place down
-moved : (x : ℕ) (X : Bytes) (j : ℕ) → j < length X → set (take j X ++ drop j (x ∷ X)) j (get_or (take j X ++ drop j (x ∷ X)) (suc j) 0) ≡ take (suc j) X ++ drop j X
-moved x [] j h = absurd (omega arith)
-moved x (y ∷ X) zero h = refl
-moved x (y ∷ X) (suc j) h = ap (λ Z. y ∷ Z) (moved y X j (omega arith))
+str_high : (b n : ℕ) → str b n ≡ bytes_high_first b n
+str_high zero n = refl
+str_high (suc b) n = ap (λ Z. Z ++ (n % 256 ∷ [])) (str_high b (n / 256)) ∙ sym (high_more b n)
 
-pub g_turn : (X B : Bytes) (i : ℕ) → 1 ≤ i → i < length X → B ≡ take (i - 1) (drop 1 X) ++ drop (i - 1) X → set B (i - 1) (get_or B i 0) ≡ take (i + 1 - 1) (drop 1 X) ++ drop (i + 1 - 1) X
-g_turn [] B i h k e = absurd (omega arith)
-g_turn (x ∷ X) B i h k e =
-    let j : ℕ = i - 1 in
-    let n : i ≡ suc j = omega arith in
-    let m : i + 1 - 1 ≡ suc j = omega arith in
-    ap (λ Z. set Z j (get_or Z i 0)) e ∙ ap (λ z. set (take j X ++ drop j (x ∷ X)) j (get_or (take j X ++ drop j (x ∷ X)) z 0)) n
-    ∙ moved x X j (omega arith) ∙ ap (λ z. take z X ++ drop z (x ∷ X)) (sym m)
+-- without the highest bytes, and with zeros above
+high_drop : (j m b n : ℕ) → m ≡ j + b → drop j (bytes_high_first m n) ≡ bytes_high_first b n
+high_drop zero m b n e = ap (λ k. bytes_high_first k n) (let z : m ≡ b = omega arith in z)
+high_drop (suc j) zero b n e = absurd (omega arith)
+high_drop (suc j) (suc m) b n e = high_drop j m b n (omega arith)
 
-pub g_end : (X B : Bytes) (i : ℕ) → 2 ≤ length X → i ≡ length X → B ≡ take (i - 1) (drop 1 X) ++ drop (i - 1) X → set B (length X - 1) (bit_xor (get_or X 0 0) (get_or X 1 0)) ≡ g X
-g_end [] B i h n e = absurd (omega arith)
-g_end (x ∷ []) B i h n e = absurd (omega arith)
-g_end (x ∷ (y ∷ X)) B i h n e =
-    let k : ℕ = length (y ∷ X) in
-    let m : i - 1 ≡ k = omega arith in
-    let v : ℕ = bit_xor x y in
-    let d : drop k (x ∷ (y ∷ X)) ≡ get_or (x ∷ (y ∷ X)) k 0 ∷ [] = drop_more (x ∷ (y ∷ X)) k 0 (omega arith) ∙ ap (λ Z. get_or (x ∷ (y ∷ X)) k 0 ∷ Z) (drop_all (k + 1) (x ∷ (y ∷ X)) (omega arith)) in
-    let b : B ≡ (y ∷ X) ++ (get_or (x ∷ (y ∷ X)) k 0 ∷ []) =
-    e ∙ ap (λ z. take z (y ∷ X) ++ drop z (x ∷ (y ∷ X))) m ∙ ap (λ Z. Z ++ drop k (x ∷ (y ∷ X))) (take_all k (y ∷ X) (omega arith)) ∙ ap (λ Z. (y ∷ X) ++ Z) d in
-    ap (λ z. set B z v) (let z : suc k - 1 ≡ k = omega arith in z) ∙ ap (λ Z. set Z k v) b ∙ set_at (y ∷ X) (get_or (x ∷ (y ∷ X)) k 0) [] v k refl
+high_zeros : (j m n : ℕ) → m ≡ j + 8 → n < 256 ^ 8 → bytes_high_first m n ≡ replicate j 0 ++ bytes_high_first 8 n
+high_zeros zero m n e h = ap (λ k. bytes_high_first k n) (let z : m ≡ 8 = omega arith in z)
+high_zeros (suc j) zero n e h = absurd (omega arith)
+high_zeros (suc j) (suc zero) n e h = absurd (omega arith)
+high_zeros (suc j) (suc (suc m)) n e h =
+    let p = pow-le-pow_right {n = 256} (omega arith) {i = 8} {j = suc m} (omega arith) in
+    let d : n / 256 ^ suc m ≡ 0 = div-eq_of_lt (omega arith) in
+    ap (λ z. z % 256 ∷ bytes_high_first (suc m) n) d ∙ ap (λ Z. 0 ∷ Z) (high_zeros j (suc m) n (omega arith) h)
+
+-- a number below 2 ^ 64 as a block of b bytes, of which 8 or fewer are its bytes
+str_end : (b n k : ℕ) → n < 256 ^ 8 → k ≡ min b 8 → str b n ≡ replicate (b - k) 0 ++ drop (8 - k) (bytes_high_first 8 n)
+str_end b n k h e = str_high b n ∙ ⊎_elim few many (cases_lt b 8)
+  where
+    few : b < 8 → bytes_high_first b n ≡ replicate (b - k) 0 ++ drop (8 - k) (bytes_high_first 8 n)
+    few l = let z : b - k ≡ 0 = omega arith in rw z (sym (high_drop (8 - k) 8 b n (omega arith)))
+
+    many : 8 ≤ b → bytes_high_first b n ≡ replicate (b - k) 0 ++ drop (8 - k) (bytes_high_first 8 n)
+    many l = let z : 8 - k ≡ 0 = omega arith in rw z (high_zeros (b - k) b n (omega arith) h)
+
+-- the last k bytes of a block take Y in
+pub taken_in : (B Q Y : Bytes) (k : ℕ) → Q ≡ take (length B - (length B - k)) (drop (length B - k) B) ⊕ Y →
+    put_mid (length B - k) (length B - (length B - k)) B Q ≡ B ⊕ (replicate (length B - k) 0 ++ Y)
+taken_in B Q Y k e =
+    let b = length B in
+    let at = b - k in
+    let l : length (drop at B) ≡ b - at = length-drop at B in
+    let t : take (b - at) (drop at B) ≡ drop at B = take_all (b - at) (drop at B) (omega arith) in
+    let d : drop (b - at) (drop at B) ≡ [] = drop_all (b - at) (drop at B) (omega arith) in
+    let n : length (take at B) ≡ length (replicate {A = ℕ} at 0) = (let x = length-take at B in let y = length-replicate {A = ℕ} at 0 in omega arith) in
+    ap (λ Z. take at B ++ (Q ++ Z)) d ∙ ap (λ Z. take at B ++ Z) (append-nil Q ∙ e ∙ ap (λ Z. Z ⊕ Y) t)
+    ∙ ap (λ Z. Z ++ (drop at B ⊕ Y)) (sym (xor_zeros at (take at B)))
+    ∙ sym (xor_append (take at B) (replicate at 0) (drop at B) Y n)
+    ∙ ap (λ Z. Z ⊕ (replicate at 0 ++ Y)) (take-append-drop at B)
+
+pub number_in : (B Q : Bytes) (n k : ℕ) → n < 256 ^ 8 → k ≡ min (length B) 8 →
+    Q ≡ take (length B - (length B - k)) (drop (length B - k) B) ⊕ drop (8 - k) (bytes_high_first 8 n) →
+    put_mid (length B - k) (length B - (length B - k)) B Q ≡ B ⊕ str (length B) n
+number_in B Q n k h e q = taken_in B Q _ k q ∙ ap (λ Z. B ⊕ Z) (sym (str_end (length B) n k h e))
+
+-- turned one place to the left, with the exclusive or of the first two at the end
+pub g_turned : (X R : Bytes) → 2 ≤ length X → R ≡ drop 1 X ++ take 1 X → set R (length X - 1) (bit_xor (get_or R (length X - 1) 0) (get_or R 0 0)) ≡ g X
+g_turned [] R n e = absurd (omega arith)
+g_turned (x ∷ []) R n e = absurd (omega arith)
+g_turned (x ∷ (y ∷ X)) R n e =
+    let z : suc (suc (length X)) - 1 ≡ suc (length X) = omega arith in
+    rw (e, z) (ap (λ v. set ((y ∷ X) ++ (x ∷ [])) (suc (length X)) (bit_xor v y)) (get_or_at (y ∷ X) x [] 0 (suc (length X)) refl)
+    ∙ set_at (y ∷ X) x [] (bit_xor x y) (suc (length X)) refl)

@@ -5,16 +5,6 @@ use Rattle.std.specs.Str.{bytes_eq}
 use Rattle.std.proofs.lemmas.Bool.{cases_Bool, eqb-true, eq-eqb, ne_eqb}
 use Rattle.blocks.specs.Blocks.{Bytes}
 
-pub same_lengths : (X Y : Bytes) → (length X ≡ length Y → ⊥) → bytes_eq X Y ≡ false
-same_lengths [] [] h = absurd (h refl)
-same_lengths [] (y ∷ Y) h = refl
-same_lengths (x ∷ X) [] h = refl
-same_lengths (x ∷ X) (y ∷ Y) h = simp (same_lengths X Y (λ e. h (ap suc e))) (and_false (eqb x y))
-  where
-    and_false : (t : Bool) → (t && false) ≡ false
-    and_false true = refl
-    and_false false = refl
-
 -- bits stand out where one of two numbers has any
 or_none : (d e : ℕ) → eqb (bit_or d e) 0 ≡ (eqb d 0 && eqb e 0)
 or_none d e = ⊎_elim

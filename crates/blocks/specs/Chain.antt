@@ -1,5 +1,5 @@
 -- The two chains of both modes over a cipher of width b and function E: CBC MAC for HASH and PRF, CFB for ENC and DEC.
-use Rattle.std.specs.Prelude.{ℕ, List, [], ◌∷◌}
+use Rattle.std.specs.Prelude.{ℕ, Bool, cond, List, [], ◌∷◌}
 use Rattle.blocks.specs.Blocks.{Bytes, ◌⊕◌, blocks, join}
 use Rattle.blocks.specs.Pads.{fix1}
 
@@ -27,3 +27,7 @@ module _ (b : ℕ) (E : Bytes → Bytes) where
   -- DEC(V, C)
   abbrev pub dec : Bytes → Bytes → Bytes
   dec V C = join (dec_blocks E V (blocks b C))
+
+  -- DEC where the text is a ciphertext, else ENC
+  abbrev pub crypted : Bool → Bytes → Bytes → Bytes
+  crypted t V X = cond t (dec V X) (enc V X)

@@ -1,6 +1,10 @@
 -- The tweak functions: CLOC's on the four equal words of a block, SILC's on its bytes.
-use Rattle.std.specs.Prelude.{ℕ, zero, suc, ◌*◌, ◌/◌, ◌%◌, [], ◌∷◌, ◌++◌, length, take, drop, bit_xor}
+use Rattle.std.specs.Prelude.{ℕ, zero, suc, ◌*◌, ◌/◌, ◌%◌, [], ◌∷◌, ◌++◌, ◌≡◌, ◌⊎◌, length, take, drop, slice_index, bit_xor}
 use Rattle.blocks.specs.Blocks.{Bytes, ◌⊕◌}
+
+-- a block has 8 or 16 bytes
+abbrev pub IsBlock : Bytes → Type 0
+IsBlock X = (length X ≡ 8) ⊎ (length X ≡ 16)
 
 -- X[i + 1] of (X[1], X[2], X[3], X[4]) ← X
 abbrev pub word : ℕ → Bytes → Bytes
@@ -41,3 +45,7 @@ power (suc n) f X = f (power n f X)
 -- a word of q bytes as the number that the code holds it in, the lowest byte first
 abbrev pub little : ℕ → ℕ → Bytes
 little q n = take q (n % 256 ∷ n / 256 % 256 ∷ n / 65536 % 256 ∷ n / 16777216 % 256 ∷ [])
+
+-- the block whose words these four numbers hold
+abbrev pub held : ℕ → Bytes → Bytes
+held q w = four (little q (slice_index w 0)) (little q (slice_index w 1)) (little q (slice_index w 2)) (little q (slice_index w 3))

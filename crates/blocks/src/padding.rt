@@ -13,6 +13,7 @@ pub fn xor_into(block: &mut [u8], x: &[u8])
         xor_words(block, x);
         return;
     }
+    // Kept: after a loop over `block.iter_mut().zip(x)` the proof knows of the block its length alone.
     let n = block.len().min(x.len());
     for i in 0..n {
         block[i] ^= x[i];
@@ -62,13 +63,10 @@ pub fn write_nonce(block: &mut [u8], param: u8, nonce: &[u8])
 pub fn xor_length(block: &mut [u8], x: &[u8])
     ensures { block.new ≡ block.old ⊕ Len (length block.old) x.now }
 {
-    let mut high = x.len();
-    let mut i = block.len();
-    while i > 0 && high > 0 {
-        i -= 1;
-        block[i] ^= (high % 256) as u8;
-        high /= 256;
-    }
+    let number = x.len().to_be_bytes();
+    let n = block.len().min(8);
+    let at = block.len() - n;
+    xor_into(&mut block[at..], &number[8 - n..]);
 }
 
 // fix0 of the block, and whether the first bit was 1.

@@ -12,6 +12,7 @@ pub fn copy_msb(tag: &mut [u8], block: &[u8])
     tag.copy_from_slice(first);
 }
 
+// Kept: no `==`, which may end at the first byte that differs.
 // Whether two strings are equal. All bytes are looked at, whatever is found, so that the time tells nothing of where they differ.
 pub fn same_bytes(a: &[u8], b: &[u8]) -> bool
     ensures { result ≡ bytes_eq a.now b.now }
@@ -20,8 +21,8 @@ pub fn same_bytes(a: &[u8], b: &[u8]) -> bool
         return false;
     }
     let mut differ = 0;
-    for i in 0..a.len() {
-        differ |= a[i] ^ b[i];
+    for (x, y) in a.iter().zip(b) {
+        differ |= x ^ y;
     }
     differ == 0
 }

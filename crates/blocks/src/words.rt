@@ -1,13 +1,13 @@
 // Blocks of 8 or 16 bytes as four words, on which whole blocks are combined at once: a byte stored alone would hold up the next run,
 // which reads the block by words.
-ghost use Rattle.std.specs.Prelude.{◌≡◌, ◌/◌, ◌<◌, ◌⊎◌, length};
+ghost use Rattle.std.specs.Prelude.{◌≡◌, ℕ, ◌/◌, ◌<◌, cond, length};
 ghost use Rattle.blocks.specs.Blocks.{◌⊕◌};
 ghost use Rattle.blocks.specs.Pads.{fix1};
-ghost use Rattle.blocks.specs.Words.{word, four, little};
+ghost use Rattle.blocks.specs.Words.{IsBlock, word, little, held};
 
 // One of the four words of a block as a number, which has the first byte lowest: to exclusive or the order is the same.
-pub(crate) fn load_word(block: &[u8], i: usize) -> u32
-    requires width { (length block.now ≡ 8) ⊎ (length block.now ≡ 16) }
+fn load_word(block: &[u8], i: usize) -> u32
+    requires width { IsBlock block.now }
     requires place { i < 4 }
     ensures { little (length block.now / 4) result ≡ word i block.now }
 {
@@ -20,11 +20,25 @@ pub(crate) fn load_word(block: &[u8], i: usize) -> u32
     }
 }
 
-// The block whose words are these numbers: the low bytes of each, two or four.
-pub(crate) fn store_words(block: &mut [u8], w1: u32, w2: u32, w3: u32, w4: u32)
-    requires { (length block.old ≡ 8) ⊎ (length block.old ≡ 16) }
-    ensures { block.new ≡ four (little (length block.old / 4) w1) (little (length block.old / 4) w2) (little (length block.old / 4) w3) (little (length block.old / 4) w4) }
+// The four words of a block.
+pub(crate) fn load_words(block: &[u8]) -> [u32; 4]
+    requires { IsBlock block.now }
+    ensures { held (length block.now / 4) result ≡ block.now }
 {
+    [
+        load_word(block, 0),
+        load_word(block, 1),
+        load_word(block, 2),
+        load_word(block, 3),
+    ]
+}
+
+// The block whose words are these: the low bytes of each, two or four.
+pub(crate) fn store_words(block: &mut [u8], words: [u32; 4])
+    requires { IsBlock block.old }
+    ensures { block.new ≡ held (length block.old / 4) words }
+{
+    let [w1, w2, w3, w4] = words;
     let [a0, a1, a2, a3] = w1.to_le_bytes();
     let [b0, b1, b2, b3] = w2.to_le_bytes();
     let [c0, c1, c2, c3] = w3.to_le_bytes();
@@ -38,51 +52,45 @@ pub(crate) fn store_words(block: &mut [u8], w1: u32, w2: u32, w3: u32, w4: u32)
     }
 }
 
+// X ⊕ Y, on their words.
+fn xor(x: [u32; 4], y: [u32; 4]) -> [u32; 4]
+    ensures { (q : ℕ) → held q result ≡ held q x ⊕ held q y }
+{
+    [x[0] ^ y[0], x[1] ^ y[1], x[2] ^ y[2], x[3] ^ y[3]]
+}
+
+// fix1(X), on its words.
+fn fix_one(x: [u32; 4]) -> [u32; 4]
+    ensures { (q : ℕ) → 0 < q → held q result ≡ fix1 (held q x) }
+{
+    [x[0] | 0x80, x[1], x[2], x[3]]
+}
+
 // block ⊕ X for two whole blocks.
 pub(crate) fn xor_words(block: &mut [u8], x: &[u8])
-    requires width { (length block.old ≡ 8) ⊎ (length block.old ≡ 16) }
+    requires width { IsBlock block.old }
     requires same { length x.now ≡ length block.old }
     ensures { block.new ≡ block.old ⊕ x.now }
 {
-    let w1 = load_word(block, 0) ^ load_word(x, 0);
-    let w2 = load_word(block, 1) ^ load_word(x, 1);
-    let w3 = load_word(block, 2) ^ load_word(x, 2);
-    let w4 = load_word(block, 3) ^ load_word(x, 3);
-    store_words(block, w1, w2, w3, w4);
+    let sum = xor(load_words(block), load_words(x));
+    store_words(block, sum);
 }
 
-// C[i] from M[i] and the stream block in the state, and fix1(C[i]) into the state.
-pub(crate) fn encrypt_block(state: &mut [u8], block: &[u8], out: &mut [u8])
-    requires width { (length state.old ≡ 8) ⊎ (length state.old ≡ 16) }
+// One block through the stream block in the state: X[i] ⊕ the stream block goes out, and fix1(C[i]) into the state. C[i] is what is
+// written where contents are encrypted, and what is read where a ciphertext is decrypted.
+pub(crate) fn crypt_block<const DECRYPTS: bool>(state: &mut [u8], block: &[u8], out: &mut [u8])
+    requires width { IsBlock state.old }
     requires block { length block.now ≡ length state.old }
     requires out { length out.old ≡ length state.old }
     ensures out { out.new ≡ block.now ⊕ state.old }
-    ensures state { state.new ≡ fix1 (block.now ⊕ state.old) }
+    ensures state { state.new ≡ fix1 (cond DECRYPTS block.now (block.now ⊕ state.old)) }
 {
-    let c1 = load_word(block, 0) ^ load_word(state, 0);
-    let c2 = load_word(block, 1) ^ load_word(state, 1);
-    let c3 = load_word(block, 2) ^ load_word(state, 2);
-    let c4 = load_word(block, 3) ^ load_word(state, 3);
-    store_words(out, c1, c2, c3, c4);
-    store_words(state, c1 | 0x80, c2, c3, c4);
-}
-
-// M[i] from C[i] and the stream block in the state, and fix1(C[i]) into the state.
-pub(crate) fn decrypt_block(state: &mut [u8], block: &[u8], out: &mut [u8])
-    requires width { (length state.old ≡ 8) ⊎ (length state.old ≡ 16) }
-    requires block { length block.now ≡ length state.old }
-    requires out { length out.old ≡ length state.old }
-    ensures out { out.new ≡ block.now ⊕ state.old }
-    ensures state { state.new ≡ fix1 block.now }
-{
-    let w1 = load_word(block, 0);
-    let w2 = load_word(block, 1);
-    let w3 = load_word(block, 2);
-    let w4 = load_word(block, 3);
-    let m1 = w1 ^ load_word(state, 0);
-    let m2 = w2 ^ load_word(state, 1);
-    let m3 = w3 ^ load_word(state, 2);
-    let m4 = w4 ^ load_word(state, 3);
-    store_words(out, m1, m2, m3, m4);
-    store_words(state, w1 | 0x80, w2, w3, w4);
+    let read = load_words(block);
+    let written = xor(read, load_words(state));
+    store_words(out, written);
+    if DECRYPTS {
+        store_words(state, fix_one(read));
+    } else {
+        store_words(state, fix_one(written));
+    }
 }

@@ -2,9 +2,12 @@
 use crate::cipher_case::run_cipher;
 use crate::input::Input;
 use crate::line::{Case, CaseFault};
+use crate::mode_case::run_call;
+use crate::round_case::run_round;
+use crate::send_case::run_sends;
+use crate::session_case::run_session;
 use crate::set_case::{run_lookup, run_setrule};
 use crate::tube_case::run_tube;
-use crate::with_mode::{ModeKind, run_call, run_with_mode};
 use std::alloc::{AllocError, Global};
 
 fn run_case(case: &mut Case) -> Result<(), CaseFault> {
@@ -15,10 +18,10 @@ fn run_case(case: &mut Case) -> Result<(), CaseFault> {
     match kind {
         "cipher" => run_cipher(case),
         "lookup" => run_lookup(case),
-        "mode" => run_with_mode(case, ModeKind::Round),
+        "mode" => run_round(case),
         "modecall" => run_call(case),
-        "send" => run_with_mode(case, ModeKind::Sends),
-        "session" => run_with_mode(case, ModeKind::Session),
+        "send" => run_sends(case),
+        "session" => run_session(case),
         "setrule" => run_setrule(case),
         "tube" => run_tube(case),
         _ => Err(CaseFault::Bad(Input::Kind)),
@@ -27,10 +30,10 @@ fn run_case(case: &mut Case) -> Result<(), CaseFault> {
 
 // The line as it came, with the name of the field that can't be read.
 fn bad_line(heap: Global, line: &[u8], input: Input, suffix: &str) -> Result<Vec<u8>, AllocError> {
+    let name = input.name();
+    let bad = format!(in heap; " bad={name}{suffix}")?;
     let mut bytes = Vec::from_slice(heap, line)?;
-    bytes.extend_from_slice(b" bad=")?;
-    bytes.extend_from_slice(input.name().as_bytes())?;
-    bytes.extend_from_slice(suffix.as_bytes())?;
+    bytes.extend_from_slice(bad.as_bytes())?;
     Ok(bytes)
 }
 
@@ -39,7 +42,7 @@ fn answer_text(heap: Global, line: &str) -> Result<Vec<u8>, AllocError> {
     match run_case(&mut case) {
         Ok(()) => case.finish(),
         Err(CaseFault::Bad(input)) => bad_line(heap, line.as_bytes(), input, case.suffix()),
-        Err(CaseFault::Memory) => Err(AllocError),
+        Err(CaseFault::Memory(error)) => Err(error),
     }
 }
 

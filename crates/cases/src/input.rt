@@ -1,5 +1,5 @@
 // The inputs of all kinds of cases.
-#[derive(Clone, Copy)]
+#[derive(Clone, Copy, Debug)]
 pub enum Input {
     Kind,
     Case,
@@ -34,6 +34,7 @@ pub enum Input {
 
 impl Input {
     // The name of the input's field.
+    // Kept: names of fields are compared as text, and Display would only write them.
     pub fn name(self) -> &'static str {
         match self {
             Input::Kind => "kind",

@@ -1,8 +1,15 @@
 // A case while it runs: the inputs still to be read from its line, and the line that is written anew.
 use crate::input::Input;
-use std::alloc::{AllocError, AllocFailed, Global};
+use link::fault::EndFault;
+use mode::fault::ModeFault;
+use std::alloc::{AllocError, Global};
+use std::fmt;
+use std::fmt::Write;
+use std::iter::Peekable;
+use std::str::Split;
+use text::digits::{Hex, decode, parse_number};
 use text::fault::TextFault;
-use text::hex::{decode, encode, parse_number};
+use thiserror::Error;
 
 // The longest part of memory that a case may ask for.
 const LENGTH_LIMIT: u64 = 0x1000_0000;
@@ -12,92 +19,53 @@ pub const OUT_FILL: u8 = 0xa5;
 
 pub const WORK_FILL: u8 = 0x5a;
 
-// Why a case is not run: a field that can't be read, or no memory.
-#[derive(Clone, Copy)]
+// Why a case is not run.
+#[derive(Clone, Copy, Debug, Error)]
 pub enum CaseFault {
+    #[error("the field {name} can't be read", name = .0.name())]
     Bad(Input),
-    Memory,
+    #[error(transparent)]
+    Memory(#[from(alloc)] AllocError),
 }
 
-impl From<AllocError> for CaseFault {
-    fn from(_e: AllocError) -> CaseFault {
-        CaseFault::Memory
-    }
+// The parts that a call changed and must not have.
+#[derive(Clone, Copy, Default)]
+struct Touched {
+    out: bool,
+    work: bool,
 }
 
-impl<T: Drop> From<AllocFailed<T>> for CaseFault {
-    fn from(_e: AllocFailed<T>) -> CaseFault {
-        CaseFault::Memory
-    }
-}
-
-// The fields of a line, in their order.
-#[derive(Drop)]
-pub struct Fields<'a> {
-    rest: &'a str,
-}
-
-impl<'a> Fields<'a> {
-    // The word up to the next space, or to the end.
-    fn word(&mut self) -> &'a str {
-        let rest = self.rest;
-        match rest.split_once(' ') {
-            Some((word, behind)) => {
-                self.rest = behind;
-                word
-            }
-            None => {
-                self.rest = "";
-                rest
-            }
+impl fmt::Display for Touched {
+    fn fmt<W: fmt::Write>(&self, f: &mut fmt::Formatter<W>) -> fmt::Result {
+        if self.out {
+            f.write_str(" touched=out")?;
         }
-    }
-
-    // Whether the next field has this name.
-    fn next_is(&self, name: &str) -> bool {
-        match self.rest.split_once('=') {
-            Some((before, _)) => before == name,
-            None => false,
+        if self.work {
+            f.write_str(" touched=work")?;
         }
-    }
-
-    // The value of the next field of this name. What stands before it is passed over.
-    fn value(&mut self, name: &str) -> Option<&'a str> {
-        for _ in 0..u64::MAX {
-            if self.rest.is_empty() {
-                return None;
-            }
-            if let Some((before, value)) = self.word().split_once('=') {
-                if before == name {
-                    return Some(value);
-                }
-            }
-        }
-        None
+        Ok(())
     }
 }
 
 #[derive(Drop)]
 pub struct Case<'a> {
     heap: Global,
-    fields: Fields<'a>,
+    // the fields that are still to be read
+    words: Peekable<Split<'a, char>>,
     // what follows the names of the fields of a step: a dot and the step's number
     suffix: String,
-    bytes: Vec<u8>,
-    // whether a call changed what it must not
-    touched_out: bool,
-    touched_work: bool,
+    line: String,
+    touched: Touched,
 }
 
 impl<'a> Case<'a> {
     pub fn new(heap: Global, line: &'a str) -> Case<'a> {
         Case {
             heap,
-            fields: Fields { rest: line },
+            words: line.split(' ').peekable(),
             suffix: String::new(heap),
-            bytes: Vec::new(heap),
-            touched_out: false,
-            touched_work: false,
+            line: String::new(heap),
+            touched: Touched::default(),
         }
     }
 
@@ -113,19 +81,13 @@ impl<'a> Case<'a> {
     pub fn finish(self) -> Result<Vec<u8>, AllocError> {
         let Case {
             heap: _,
-            fields: _,
+            words: _,
             suffix: _,
-            mut bytes,
-            touched_out,
-            touched_work,
+            mut line,
+            touched,
         } = self;
-        if touched_out {
-            bytes.extend_from_slice(b" touched=out")?;
-        }
-        if touched_work {
-            bytes.extend_from_slice(b" touched=work")?;
-        }
-        Ok(bytes)
+        write!(line, "{touched}")?;
+        Ok(line.into_bytes())
     }
 
     // From now on the fields are those of this step.
@@ -135,36 +97,38 @@ impl<'a> Case<'a> {
     }
 
     // Whether the next field is this input.
-    pub fn next_is(&self, input: Input) -> bool {
-        self.fields.next_is(input.name())
+    pub fn next_is(&mut self, input: Input) -> bool {
+        self.words
+            .peek()
+            .and_then(|word| word.split_once('='))
+            .is_some_and(|(name, _)| name == input.name())
     }
 
-    // An input, which is not written.
+    // An input, which is not written. What stands before it is passed over.
     pub fn ask(&mut self, input: Input) -> Result<&'a str, CaseFault> {
-        let name = input.name();
         let suffix = self.suffix.as_str();
-        let full = format!(in self.heap; "{name}{suffix}")?;
-        match self.fields.value(full.as_str()) {
-            Some(value) => Ok(value),
-            None => Err(CaseFault::Bad(input)),
-        }
+        self.words
+            .by_ref()
+            .filter_map(|word| word.split_once('='))
+            .find(|(name, _)| name.strip_suffix(suffix) == Some(input.name()))
+            .map(|(_, value)| value)
+            .ok_or(CaseFault::Bad(input))
     }
 
     // An input, written as it came.
     pub fn text(&mut self, input: Input) -> Result<&'a str, CaseFault> {
         let value = self.ask(input)?;
-        self.put_text(input.name(), value)?;
+        self.put(input.name(), value)?;
         Ok(value)
     }
 
     // An input that is a byte string.
     pub fn bytes(&mut self, input: Input) -> Result<Vec<u8>, CaseFault> {
         let value = self.text(input)?;
-        match decode(self.heap, value) {
-            Ok(bytes) => Ok(bytes),
-            Err(TextFault::Memory) => Err(CaseFault::Memory),
-            Err(_) => Err(CaseFault::Bad(input)),
-        }
+        decode(self.heap, value).map_err(|fault| match fault {
+            TextFault::Memory(error) => CaseFault::Memory(error),
+            _ => CaseFault::Bad(input),
+        })
     }
 
     // An input that is a number.
@@ -175,10 +139,7 @@ impl<'a> Case<'a> {
 
     // An input that is a number of one byte.
     pub fn byte(&mut self, input: Input) -> Result<u8, CaseFault> {
-        match u8::try_from(self.number(input)?) {
-            Ok(byte) => Ok(byte),
-            Err(_) => Err(CaseFault::Bad(input)),
-        }
+        u8::try_from(self.number(input)?).map_err(|_| CaseFault::Bad(input))
     }
 
     // An input that is the length of a part: the part, filled with this byte.
@@ -196,67 +157,43 @@ impl<'a> Case<'a> {
         self.see_work(work, 0);
     }
 
-    // After a refusal of this number: so has the whole output part. Work memory of the wrong length, which is refusal 6, has to be as it
-    // was lent.
-    pub fn see_refused(&mut self, number: u8, out: &[u8], work: &[u8]) {
+    // After a refusal: so has the whole output part. Work memory of the wrong length has to be as it was lent.
+    pub fn see_refused<F: Into<EndFault>>(&mut self, fault: F, out: &[u8], work: &[u8]) {
+        let fill = match fault.into() {
+            EndFault::Mode(ModeFault::Work(_)) => WORK_FILL,
+            _ => 0,
+        };
         self.see_out(out);
-        self.see_work(work, if number == 6 { WORK_FILL } else { 0 });
+        self.see_work(work, fill);
     }
 
-    fn see_out(&mut self, part: &[u8]) {
-        if !all_are(part, OUT_FILL) {
-            self.touched_out = true;
-        }
+    // The bytes of an output part that have to be as they were lent.
+    pub fn see_out(&mut self, part: &[u8]) {
+        self.touched.out |= part.iter().any(|byte| *byte != OUT_FILL);
     }
 
     fn see_work(&mut self, work: &[u8], fill: u8) {
-        if !all_are(work, fill) {
-            self.touched_work = true;
-        }
+        self.touched.work |= work.iter().any(|byte| *byte != fill);
     }
 
-    // Begins a field.
-    fn begin(&mut self, name: &str) -> Result<(), CaseFault> {
-        if self.bytes.len() > 0 {
-            self.bytes.push(b' ')?;
-        }
-        self.bytes.extend_from_slice(name.as_bytes())?;
-        self.bytes.extend_from_slice(self.suffix.as_bytes())?;
-        self.bytes.push(b'=')?;
-        Ok(())
-    }
-
-    pub fn put_text(&mut self, name: &str, value: &str) -> Result<(), CaseFault> {
-        self.begin(name)?;
-        self.bytes.extend_from_slice(value.as_bytes())?;
+    // Writes a field.
+    pub fn put<T: fmt::Display + Drop>(&mut self, name: &str, value: T) -> Result<(), CaseFault> {
+        let space = if self.line.is_empty() { "" } else { " " };
+        let suffix = self.suffix.as_str();
+        write!(self.line, "{space}{name}{suffix}={value}")?;
         Ok(())
     }
 
     pub fn put_bytes(&mut self, name: &str, value: &[u8]) -> Result<(), CaseFault> {
-        self.begin(name)?;
-        encode(&mut self.bytes, value)?;
-        Ok(())
+        self.put(name, Hex(value))
     }
 
     pub fn put_number(&mut self, name: &str, value: u64) -> Result<(), CaseFault> {
-        let digits = format!(in self.heap; "{value:x}")?;
-        self.put_text(name, digits.as_str())
+        self.put(name, format_args!("{value:x}"))
     }
 }
 
 // The number that a field's value is.
 pub fn number_in(value: &str, input: Input) -> Result<u64, CaseFault> {
-    match parse_number(value) {
-        Ok(number) => Ok(number),
-        Err(_) => Err(CaseFault::Bad(input)),
-    }
-}
-
-fn all_are(bytes: &[u8], value: u8) -> bool {
-    for byte in bytes {
-        if *byte != value {
-            return false;
-        }
-    }
-    true
+    parse_number(value).map_err(|_| CaseFault::Bad(input))
 }

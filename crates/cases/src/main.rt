@@ -14,7 +14,6 @@ mod send_case;
 mod session_case;
 mod set_case;
 mod tube_case;
-mod with_mode;
 
 use answer::answer_line;
 use std::io::{BufRead, BufReader, BufWriter, Write};

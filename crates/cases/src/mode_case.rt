@@ -1,8 +1,11 @@
 // One call of a mode, to seal or to open.
 use crate::input::Input;
 use crate::line::{Case, CaseFault, OUT_FILL, WORK_FILL};
-use crate::refused::put_mode_fault;
+use crate::pick::{AnyMode, read_metered};
+use crate::refused::put_fault;
 use crate::set_case::read_set;
+use cipher::interface::Allowance;
+use mode::fault::ModeFault;
 use mode::interface::Mode;
 use mode::set::ParameterSet;
 
@@ -15,21 +18,41 @@ struct Lent {
     text: Vec<u8>,
     out: Vec<u8>,
     work: Vec<u8>,
+    // the tag, or the part for it
+    tag: Vec<u8>,
 }
 
-fn read_lent(case: &mut Case) -> Result<Lent, CaseFault> {
-    let nonce = case.bytes(Input::Nonce)?;
-    let label = case.bytes(Input::Label)?;
-    let text = read_text(case)?;
-    let out = case.part(Input::Out, OUT_FILL)?;
-    let work = case.part(Input::Work, WORK_FILL)?;
-    Ok(Lent {
-        nonce,
-        label,
-        text,
-        out,
-        work,
-    })
+pub fn run_call(case: &mut Case) -> Result<(), CaseFault> {
+    match case.text(Input::Op)? {
+        "seal" => run_with(case, |case| case.part(Input::TagPart, OUT_FILL), seal),
+        "open" => run_with(case, |case| case.bytes(Input::Tag), open),
+        _ => Err(CaseFault::Bad(Input::Op)),
+    }
+}
+
+// The call with the next inputs, of which the tag comes last.
+fn run_with<
+    T: FnOnce(&mut Case) -> Result<Vec<u8>, CaseFault>,
+    C: FnOnce(&mut Case, &mut AnyMode, &ParameterSet, Lent) -> Result<(), CaseFault>,
+>(case: &mut Case, tag: T, call: C) -> Result<(), CaseFault>
+    requires tag { T.IsAlwaysCallable tag }
+    requires call { C.IsAlwaysCallable call }
+{
+    let mut mode = read_metered(case)?;
+    let set = read_set(case)?;
+    let lent = Lent {
+        nonce: case.bytes(Input::Nonce)?,
+        label: case.bytes(Input::Label)?,
+        text: read_text(case)?,
+        out: case.part(Input::Out, OUT_FILL)?,
+        work: case.part(Input::Work, WORK_FILL)?,
+        tag: tag(case)?,
+    };
+    match set {
+        Ok(set) => call(case, &mut mode, &set, lent)?,
+        Err(fault) => put_fault(case, &fault)?,
+    }
+    case.put_number("left", mode.left())
 }
 
 // Bytes, or the number of zeros that they are.
@@ -41,103 +64,66 @@ fn read_text(case: &mut Case) -> Result<Vec<u8>, CaseFault> {
     }
 }
 
-pub fn run_seal<M: Mode>(case: &mut Case, mode: &mut M) -> Result<(), CaseFault> {
-    let set = read_set(case)?;
-    let lent = read_lent(case)?;
-    let tag = case.part(Input::TagPart, OUT_FILL)?;
-    match set {
-        Ok(set) => seal(case, mode, &set, lent, tag)?,
-        Err(fault) => put_mode_fault(case, fault)?,
-    }
-    case.put_number("left", mode.left())
-}
-
-pub fn run_open<M: Mode>(case: &mut Case, mode: &mut M) -> Result<(), CaseFault> {
-    let set = read_set(case)?;
-    let lent = read_lent(case)?;
-    let tag = case.bytes(Input::Tag)?;
-    match set {
-        Ok(set) => open(case, mode, &set, lent, tag.as_slice())?,
-        Err(fault) => put_mode_fault(case, fault)?,
-    }
-    case.put_number("left", mode.left())
-}
-
-fn seal<M: Mode>(
+fn seal(
     case: &mut Case,
-    mode: &mut M,
+    mode: &mut AnyMode,
     set: &ParameterSet,
-    lent: Lent,
-    tag: Vec<u8>,
+    mut lent: Lent,
 ) -> Result<(), CaseFault> {
-    let Lent {
-        nonce,
-        label,
-        text,
-        mut out,
-        mut work,
-    } = lent;
-    let mut tag = tag;
     let answer = mode.seal(
         set,
-        nonce.as_slice(),
-        label.as_slice(),
-        text.as_slice(),
-        out.as_mut_slice(),
-        tag.as_mut_slice(),
-        work.as_mut_slice(),
+        lent.nonce.as_slice(),
+        lent.label.as_slice(),
+        lent.text.as_slice(),
+        lent.out.as_mut_slice(),
+        lent.tag.as_mut_slice(),
+        lent.work.as_mut_slice(),
     );
-    match answer {
-        Ok(count) => {
-            case.see_accepted(&[], work.as_slice());
-            put_accepted(case, count, "ciphertext", out.as_slice())?;
-            case.put_bytes("tag", tag.as_slice())
-        }
-        Err(fault) => {
-            case.see_refused(fault.number(), out.as_slice(), work.as_slice());
-            case.see_refused(fault.number(), tag.as_slice(), work.as_slice());
-            put_mode_fault(case, fault)
-        }
+    put_answer(case, answer, "ciphertext", &lent)?;
+    if answer.is_ok() {
+        return case.put_bytes("tag", lent.tag.as_slice());
     }
+    case.see_out(lent.tag.as_slice());
+    Ok(())
 }
 
-fn open<M: Mode>(
+fn open(
     case: &mut Case,
-    mode: &mut M,
+    mode: &mut AnyMode,
     set: &ParameterSet,
-    lent: Lent,
-    tag: &[u8],
+    mut lent: Lent,
 ) -> Result<(), CaseFault> {
-    let Lent {
-        nonce,
-        label,
-        text,
-        mut out,
-        mut work,
-    } = lent;
     let answer = mode.open(
         set,
-        nonce.as_slice(),
-        label.as_slice(),
-        text.as_slice(),
-        tag,
-        out.as_mut_slice(),
-        work.as_mut_slice(),
+        lent.nonce.as_slice(),
+        lent.label.as_slice(),
+        lent.text.as_slice(),
+        lent.tag.as_slice(),
+        lent.out.as_mut_slice(),
+        lent.work.as_mut_slice(),
     );
-    match answer {
-        Ok(count) => {
-            case.see_accepted(&[], work.as_slice());
-            put_accepted(case, count, "contents", out.as_slice())
-        }
-        Err(fault) => {
-            case.see_refused(fault.number(), out.as_slice(), work.as_slice());
-            put_mode_fault(case, fault)
-        }
-    }
+    put_answer(case, answer, "contents", &lent)
 }
 
-fn put_accepted(case: &mut Case, count: u64, name: &str, out: &[u8]) -> Result<(), CaseFault> {
-    case.put_text("res", "ok")?;
-    case.put_number("count", count)?;
-    case.put_bytes(name, out)
+// What a call answered: its count and the output part, which has this name, or why it was refused.
+fn put_answer(
+    case: &mut Case,
+    answer: Result<u64, ModeFault>,
+    name: &str,
+    lent: &Lent,
+) -> Result<(), CaseFault> {
+    let out = lent.out.as_slice();
+    let work = lent.work.as_slice();
+    match answer {
+        Ok(count) => {
+            case.see_accepted(&[], work);
+            case.put("res", "ok")?;
+            case.put_number("count", count)?;
+            case.put_bytes(name, out)
+        }
+        Err(fault) => {
+            case.see_refused(fault, out, work);
+            put_fault(case, &fault)
+        }
+    }
 }

@@ -4,7 +4,7 @@ use crate::line::{Case, CaseFault};
 use aes::aes128::Aes128;
 use any::ciphers::OneOf;
 use any::modes::Either;
-use cipher::fault::CipherFault;
+use cipher::keyed::{Keyed, Schedule};
 use cipher::meter::Meter;
 use cloc::cloc::Cloc;
 use led::led80::Led80;
@@ -16,68 +16,60 @@ pub type AnyCipher = OneOf<Aes128, Present80, Led80, Twine80>;
 
 pub type AnyMode = Either<Cloc<Meter<AnyCipher>>, Silc<Meter<AnyCipher>>>;
 
+// A cipher under the key of the next input.
+fn read_key<S: Schedule<K, B> + Drop, const K: usize, const B: usize>(
+    case: &mut Case,
+) -> Result<Keyed<S, K, B>, CaseFault> {
+    let key = case.bytes(Input::Key)?;
+    let mut cipher = Keyed::new();
+    cipher
+        .set_key(key.as_slice())
+        .map_err(|_| CaseFault::Bad(Input::Key))?;
+    Ok(cipher)
+}
+
 // The cipher that this input names, under the key behind it.
 pub fn read_cipher(case: &mut Case, input: Input) -> Result<AnyCipher, CaseFault> {
-    match case.text(input)? {
-        "AES-128" => read_aes(case),
-        "PRESENT-80" => read_present(case),
-        "LED-80" => read_led(case),
-        "TWINE-80" => read_twine(case),
-        _ => Err(CaseFault::Bad(input)),
-    }
+    Ok(match case.text(input)? {
+        "AES-128" => Either::First(Either::First(read_key(case)?)),
+        "PRESENT-80" => Either::First(Either::Second(read_key(case)?)),
+        "LED-80" => Either::Second(Either::First(read_key(case)?)),
+        "TWINE-80" => Either::Second(Either::Second(read_key(case)?)),
+        _ => return Err(CaseFault::Bad(input)),
+    })
 }
 
-fn taken(answer: Result<(), CipherFault>) -> Result<(), CaseFault> {
-    match answer {
-        Ok(()) => Ok(()),
-        Err(_) => Err(CaseFault::Bad(Input::Key)),
-    }
-}
-
-fn read_aes(case: &mut Case) -> Result<AnyCipher, CaseFault> {
-    let key = case.bytes(Input::Key)?;
-    let mut cipher = Aes128::new();
-    taken(cipher.set_key(key.as_slice()))?;
-    Ok(OneOf::First(cipher))
-}
-
-fn read_present(case: &mut Case) -> Result<AnyCipher, CaseFault> {
-    let key = case.bytes(Input::Key)?;
-    let mut cipher = Present80::new();
-    taken(cipher.set_key(key.as_slice()))?;
-    Ok(OneOf::Second(cipher))
-}
-
-fn read_led(case: &mut Case) -> Result<AnyCipher, CaseFault> {
-    let key = case.bytes(Input::Key)?;
-    let mut cipher = Led80::new();
-    taken(cipher.set_key(key.as_slice()))?;
-    Ok(OneOf::Third(cipher))
-}
-
-fn read_twine(case: &mut Case) -> Result<AnyCipher, CaseFault> {
-    let key = case.bytes(Input::Key)?;
-    let mut cipher = Twine80::new();
-    taken(cipher.set_key(key.as_slice()))?;
-    Ok(OneOf::Fourth(cipher))
-}
-
-// A meter over the cipher of the next inputs: with the quota behind them, or with no end.
-fn read_meter(case: &mut Case, metered: bool) -> Result<Meter<AnyCipher>, CaseFault> {
+// A meter over the cipher of the next inputs, with this quota.
+fn read_meter<F: FnOnce(&mut Case) -> Result<u64, CaseFault>>(
+    case: &mut Case,
+    quota: F,
+) -> Result<Meter<AnyCipher>, CaseFault>
+    requires { F.IsAlwaysCallable quota }
+{
     let cipher = read_cipher(case, Input::Cipher)?;
-    let quota = if metered {
-        case.number(Input::Quota)?
-    } else {
-        u64::MAX
-    };
-    Ok(Meter::new(cipher, quota))
+    Ok(Meter::new(cipher, quota(case)?))
 }
 
-// The mode of the next inputs.
-pub fn read_mode(case: &mut Case, metered: bool) -> Result<AnyMode, CaseFault> {
+// The mode of the next inputs, over such a meter.
+fn read_mode<F: FnOnce(&mut Case) -> Result<u64, CaseFault>>(
+    case: &mut Case,
+    quota: F,
+) -> Result<AnyMode, CaseFault>
+    requires { F.IsAlwaysCallable quota }
+{
     match case.text(Input::Mode)? {
-        "CLOC" => Ok(Either::First(Cloc::new(read_meter(case, metered)?))),
-        "SILC" => Ok(Either::Second(Silc::new(read_meter(case, metered)?))),
+        "CLOC" => Ok(Either::First(Cloc::new(read_meter(case, quota)?))),
+        "SILC" => Ok(Either::Second(Silc::new(read_meter(case, quota)?))),
         _ => Err(CaseFault::Bad(Input::Mode)),
     }
+}
+
+// The mode of the next inputs, with the quota behind them.
+pub fn read_metered(case: &mut Case) -> Result<AnyMode, CaseFault> {
+    read_mode(case, |case| case.number(Input::Quota))
+}
+
+// The mode of the next inputs, without end.
+pub fn read_endless(case: &mut Case) -> Result<AnyMode, CaseFault> {
+    read_mode(case, |_| Ok(u64::MAX))
 }

@@ -2,66 +2,50 @@
 use crate::line::{Case, CaseFault};
 use link::fault::EndFault;
 use mode::fault::ModeFault;
-use refusal::layer::Layer;
+use refusal::interface::Refusal;
 use refusal::values::Values;
 use tube::fault::TubeFault;
 
-// The number, which is decimal, the values, and the layers: the one that the fault names, and those that carry it.
-fn put_fault(
-    case: &mut Case,
-    number: u8,
-    values: Values,
-    layer: Layer,
-    carriers: &str,
-) -> Result<(), CaseFault> {
-    let digits = format!(in case.heap(); "{number}")?;
-    case.put_text("res", digits.as_str())?;
-    put_values(case, values)?;
-    let layers = format!(in case.heap(); "{layer}{carriers}")?;
-    case.put_text("layers", layers.as_str())
+// A refusal of a mode, of a tube's form or of an end.
+pub trait Told: Refusal {
+    // The layers that carry it where it is told.
+    fn carriers(&self) -> &'static str;
 }
 
-fn put_values(case: &mut Case, values: Values) -> Result<(), CaseFault> {
-    match values {
-        Values::None => case.put_text("vals", ""),
-        Values::One(a) => case.put_number("vals", a),
-        Values::Two(a, b) => {
-            let list = format!(in case.heap(); "{a:x},{b:x}")?;
-            case.put_text("vals", list.as_str())
+impl Told for ModeFault {
+    fn carriers(&self) -> &'static str {
+        match self {
+            ModeFault::Cipher(_) => ">mode",
+            _ => "",
         }
     }
 }
 
-pub fn put_mode_fault(case: &mut Case, fault: ModeFault) -> Result<(), CaseFault> {
-    let carriers = match fault {
-        ModeFault::Cipher(_) => ">mode",
-        _ => "",
-    };
-    put_fault(
-        case,
-        fault.number(),
-        fault.values(),
-        fault.layer(),
-        carriers,
-    )
+impl Told for TubeFault {
+    fn carriers(&self) -> &'static str {
+        ""
+    }
 }
 
-pub fn put_tube_fault(case: &mut Case, fault: TubeFault) -> Result<(), CaseFault> {
-    put_fault(case, fault.number(), fault.values(), fault.layer(), "")
+impl Told for EndFault {
+    fn carriers(&self) -> &'static str {
+        match self {
+            EndFault::Mode(ModeFault::Cipher(_)) => ">mode>end",
+            EndFault::Mode(_) | EndFault::Tube(_) => ">end",
+            _ => "",
+        }
+    }
 }
 
-pub fn put_end_fault(case: &mut Case, fault: EndFault) -> Result<(), CaseFault> {
-    let carriers = match fault {
-        EndFault::Mode(ModeFault::Cipher(_)) => ">mode>end",
-        EndFault::Mode(_) => ">end",
-        EndFault::Tube(_) => ">end",
-        _ => "",
-    };
-    put_fault(
-        case,
-        fault.number(),
-        fault.values(),
-        fault.layer(),
-        carriers,
-    )
+// The number, which is decimal, the values, and the layers: the one that the fault names, and those that carry it.
+pub fn put_fault<F: Told>(case: &mut Case, told: &F) -> Result<(), CaseFault> {
+    let carriers = told.carriers();
+    let layer = told.layer();
+    case.put("res", told.number())?;
+    match told.values() {
+        Values::None => case.put("vals", "")?,
+        Values::One(a) => case.put_number("vals", a)?,
+        Values::Two(a, b) => case.put("vals", format_args!("{a:x},{b:x}"))?,
+    }
+    case.put("layers", format_args!("{layer}{carriers}"))
 }

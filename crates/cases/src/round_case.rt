@@ -1,7 +1,8 @@
 // Sealing, opening what came out, and opening it under another tag.
 use crate::input::Input;
 use crate::line::{Case, CaseFault, OUT_FILL, WORK_FILL};
-use crate::refused::put_mode_fault;
+use crate::pick::{AnyMode, read_endless};
+use crate::refused::put_fault;
 use crate::set_case::read_set;
 use mode::checks::WORK_LENGTH;
 use mode::count::RunCount;
@@ -17,56 +18,59 @@ struct Message {
     contents: Vec<u8>,
 }
 
-fn read_message(case: &mut Case) -> Result<Message, CaseFault> {
-    let nonce = case.bytes(Input::Nonce)?;
-    let label = case.bytes(Input::Label)?;
-    let contents = case.bytes(Input::Contents)?;
-    Ok(Message {
-        nonce,
-        label,
-        contents,
-    })
+// What came out of sealing.
+#[derive(Drop)]
+struct Sealed {
+    ciphertext: Vec<u8>,
+    tag: Vec<u8>,
 }
 
-pub fn run_round<M: Mode>(case: &mut Case, mode: &mut M) -> Result<(), CaseFault> {
+pub fn run_round(case: &mut Case) -> Result<(), CaseFault> {
+    let mut mode = read_endless(case)?;
     let set = read_set(case)?;
-    let message = read_message(case)?;
+    let message = Message {
+        nonce: case.bytes(Input::Nonce)?,
+        label: case.bytes(Input::Label)?,
+        contents: case.bytes(Input::Contents)?,
+    };
     match set {
-        Ok(set) => seal(case, mode, &set, &message),
-        Err(fault) => put_mode_fault(case, fault),
+        Ok(set) => seal(case, &mut mode, &set, &message),
+        Err(fault) => put_fault(case, &fault),
     }
 }
 
-fn seal<M: Mode>(
+fn seal(
     case: &mut Case,
-    mode: &mut M,
+    mode: &mut AnyMode,
     set: &ParameterSet,
     message: &Message,
 ) -> Result<(), CaseFault> {
-    let mut out = vec![in case.heap(); OUT_FILL; message.contents.len()]?;
-    let mut tag = vec![in case.heap(); OUT_FILL; set.tag()]?;
+    let mut sealed = Sealed {
+        ciphertext: vec![in case.heap(); OUT_FILL; message.contents.len()]?,
+        tag: vec![in case.heap(); OUT_FILL; set.tag()]?,
+    };
     let mut work = [WORK_FILL; WORK_LENGTH];
     let answer = mode.seal(
         set,
         message.nonce.as_slice(),
         message.label.as_slice(),
         message.contents.as_slice(),
-        out.as_mut_slice(),
-        tag.as_mut_slice(),
+        sealed.ciphertext.as_mut_slice(),
+        sealed.tag.as_mut_slice(),
         &mut work,
     );
     match answer {
         Ok(count) => {
             case.see_accepted(&[], &work);
-            case.put_bytes("ciphertext", out.as_slice())?;
-            case.put_bytes("tag", tag.as_slice())?;
-            put_count(case, mode, RunCount::Sealing, message, count)?;
-            open(case, mode, set, message, out.as_slice(), tag.as_slice())?;
-            open_wrong(case, mode, set, message, out.as_slice(), tag.as_slice())
+            case.put_bytes("ciphertext", sealed.ciphertext.as_slice())?;
+            case.put_bytes("tag", sealed.tag.as_slice())?;
+            put_count(case, mode, RunCount::Sealing, message, Some(count))?;
+            open(case, mode, set, message, &sealed)?;
+            open_wrong(case, mode, set, message, sealed)
         }
         Err(fault) => {
-            case.see_refused(fault.number(), out.as_slice(), &work);
-            put_mode_fault(case, fault)
+            case.see_refused(fault, sealed.ciphertext.as_slice(), &work);
+            put_fault(case, &fault)
         }
     }
 }
@@ -80,91 +84,74 @@ fn name_of(which: RunCount) -> &'static str {
     }
 }
 
-// A count that a call answered, if asking for it gives the same.
-fn put_count<M: Mode>(
+// The count of a call that came out as it has to, if asking for it gives the same.
+fn put_count(
     case: &mut Case,
-    mode: &M,
+    mode: &AnyMode,
     which: RunCount,
     message: &Message,
-    count: u64,
+    count: Option<u64>,
 ) -> Result<(), CaseFault> {
-    match mode.count(which, message.label.len(), message.contents.len()) {
-        Ok(asked) => {
-            if asked == count {
-                case.put_number(name_of(which), count)
-            } else {
-                case.put_text(name_of(which), "differs")
-            }
-        }
-        Err(_) => case.put_text(name_of(which), "differs"),
+    let asked = mode.count(which, message.label.len(), message.contents.len());
+    match count {
+        Some(count) if asked == Ok(count) => case.put_number(name_of(which), count),
+        _ => case.put(name_of(which), "differs"),
     }
 }
 
-// Opens what sealing gave: the contents come back.
-fn open<M: Mode>(
+// What opening answers, and the output part.
+fn try_open(
     case: &mut Case,
-    mode: &mut M,
+    mode: &mut AnyMode,
     set: &ParameterSet,
     message: &Message,
-    ciphertext: &[u8],
-    tag: &[u8],
-) -> Result<(), CaseFault> {
-    let mut out = vec![in case.heap(); OUT_FILL; ciphertext.len()]?;
+    sealed: &Sealed,
+) -> Result<(Result<u64, ModeFault>, Vec<u8>), CaseFault> {
+    let mut out = vec![in case.heap(); OUT_FILL; sealed.ciphertext.len()]?;
     let mut work = [WORK_FILL; WORK_LENGTH];
     let answer = mode.open(
         set,
         message.nonce.as_slice(),
         message.label.as_slice(),
-        ciphertext,
-        tag,
+        sealed.ciphertext.as_slice(),
+        sealed.tag.as_slice(),
         out.as_mut_slice(),
         &mut work,
     );
     case.see_accepted(&[], &work);
-    match answer {
-        Ok(count) => {
-            if out.as_slice() == message.contents.as_slice() {
-                put_count(case, mode, RunCount::Opening, message, count)
-            } else {
-                case.put_text("open", "differs")
-            }
-        }
-        Err(_) => case.put_text("open", "differs"),
-    }
+    Ok((answer, out))
+}
+
+// Opens what sealing gave: the contents come back.
+fn open(
+    case: &mut Case,
+    mode: &mut AnyMode,
+    set: &ParameterSet,
+    message: &Message,
+    sealed: &Sealed,
+) -> Result<(), CaseFault> {
+    let (answer, out) = try_open(case, mode, set, message, sealed)?;
+    let came_back = out.as_slice() == message.contents.as_slice();
+    let count = answer.ok().filter(|_| came_back);
+    put_count(case, mode, RunCount::Opening, message, count)
 }
 
 // Opens it with every byte of the tag changed: refused by 12.
-fn open_wrong<M: Mode>(
+fn open_wrong(
     case: &mut Case,
-    mode: &mut M,
+    mode: &mut AnyMode,
     set: &ParameterSet,
     message: &Message,
-    ciphertext: &[u8],
-    tag: &[u8],
+    mut sealed: Sealed,
 ) -> Result<(), CaseFault> {
-    let wrong = changed(case, tag)?;
-    let mut out = vec![in case.heap(); OUT_FILL; ciphertext.len()]?;
-    let mut work = [WORK_FILL; WORK_LENGTH];
-    let answer = mode.open(
-        set,
-        message.nonce.as_slice(),
-        message.label.as_slice(),
-        ciphertext,
-        wrong.as_slice(),
-        out.as_mut_slice(),
-        &mut work,
-    );
-    case.see_accepted(out.as_slice(), &work);
-    match answer {
-        Err(ModeFault::Tag(count)) => { put_count(case, mode, RunCount::WrongTag, message, count) }
-        _ => case.put_text("refused", "differs"),
+    for byte in sealed.tag.as_mut_slice() {
+        *byte ^= 0x80;
     }
-}
-
-fn changed(case: &Case, tag: &[u8]) -> Result<Vec<u8>, CaseFault> {
-    let mut wrong = Vec::new(case.heap());
-    for byte in tag {
-        wrong.push(*byte ^ 0x80)?;
-    }
-    Ok(wrong)
+    let (answer, out) = try_open(case, mode, set, message, &sealed)?;
+    case.see_out(out.as_slice());
+    let count = match answer {
+        Err(ModeFault::Tag(count)) => Some(count),
+        _ => None,
+    };
+    put_count(case, mode, RunCount::WrongTag, message, count)
 }

@@ -1,24 +1,20 @@
 // Calls of one receiving end.
 use crate::input::Input;
 use crate::line::{Case, CaseFault, OUT_FILL, WORK_FILL, number_in};
-use crate::refused::{put_end_fault, put_mode_fault};
+use crate::pick::{AnyMode, read_metered};
+use crate::refused::put_fault;
 use crate::set_case::read_set;
-use mode::interface::Mode;
+use cipher::interface::Allowance;
 use mode::set::ParameterSet;
 use receiver::answer::Opened;
-use receiver::states::{Holding, Listening};
+use receiver::end::End;
+use receiver::states::Listening;
 
 // How many numbers a ledger has marks of.
 const WINDOW: u64 = 64;
 
-// A receiving end in either of its states.
-#[derive(Drop)]
-enum Receiving {
-    Listens(Listening),
-    Holds(Holding),
-}
-
-pub fn run_session<M: Mode>(case: &mut Case, mode: &mut M) -> Result<(), CaseFault> {
+pub fn run_session(case: &mut Case) -> Result<(), CaseFault> {
+    let mut mode = read_metered(case)?;
     let set = read_set(case)?;
     if case.number(Input::Window)? != WINDOW {
         return Err(CaseFault::Bad(Input::Window));
@@ -26,41 +22,41 @@ pub fn run_session<M: Mode>(case: &mut Case, mode: &mut M) -> Result<(), CaseFau
     let floor = case.number(Input::Floor)?;
     let steps = number_in(case.ask(Input::Steps)?, Input::Steps)?;
     match set {
-        Ok(set) => listen(case, mode, set, floor, steps),
+        Ok(set) => listen(case, &mut mode, set, floor, steps),
         Err(fault) => {
             case.put_number("steps", steps)?;
-            put_mode_fault(case, fault)
+            put_fault(case, &fault)
         }
     }
 }
 
-fn listen<M: Mode>(
+fn listen(
     case: &mut Case,
-    mode: &mut M,
+    mode: &mut AnyMode,
     set: ParameterSet,
     floor: u64,
     steps: u64,
 ) -> Result<(), CaseFault> {
     match Listening::new(set, floor) {
         Ok(end) => {
-            case.put_text("res", "ok")?;
+            case.put("res", "ok")?;
             case.put_number("steps", steps)?;
             run_steps(case, mode, end, steps)
         }
         Err(fault) => {
             case.put_number("steps", steps)?;
-            put_end_fault(case, fault)
+            put_fault(case, &fault)
         }
     }
 }
 
-fn run_steps<M: Mode>(
+fn run_steps(
     case: &mut Case,
-    mode: &mut M,
+    mode: &mut AnyMode,
     end: Listening,
     steps: u64,
 ) -> Result<(), CaseFault> {
-    let mut end = Receiving::Listens(end);
+    let mut end = End::Listens(end);
     for i in 0..steps {
         case.step(i)?;
         end = run_step(case, mode, end)?;
@@ -70,32 +66,22 @@ fn run_steps<M: Mode>(
 }
 
 // A call that the state does not admit can't be made, so its step can't be read.
-fn run_step<M: Mode>(
-    case: &mut Case,
-    mode: &mut M,
-    end: Receiving,
-) -> Result<Receiving, CaseFault> {
-    let op = case.text(Input::Op)?;
-    match end {
-        Receiving::Listens(end) => match op {
-            "open" => open(case, mode, end),
-            _ => Err(CaseFault::Bad(Input::Op)),
-        },
-        Receiving::Holds(end) => match op {
-            "sign" => put_ledger(case, end.sign()),
-            "return" => put_ledger(case, end.give_back()),
-            _ => Err(CaseFault::Bad(Input::Op)),
-        },
+fn run_step(case: &mut Case, mode: &mut AnyMode, end: End) -> Result<End, CaseFault> {
+    match (end, case.text(Input::Op)?) {
+        (End::Listens(end), "open") => open(case, mode, end),
+        (End::Holds(end), "sign") => put_ledger(case, end.sign()),
+        (End::Holds(end), "return") => put_ledger(case, end.give_back()),
+        _ => Err(CaseFault::Bad(Input::Op)),
     }
 }
 
-fn put_ledger(case: &mut Case, end: Listening) -> Result<Receiving, CaseFault> {
+fn put_ledger(case: &mut Case, end: Listening) -> Result<End, CaseFault> {
     case.put_number("h", end.high())?;
     case.put_number("marks", end.marks())?;
-    Ok(Receiving::Listens(end))
+    Ok(End::Listens(end))
 }
 
-fn open<M: Mode>(case: &mut Case, mode: &mut M, end: Listening) -> Result<Receiving, CaseFault> {
+fn open(case: &mut Case, mode: &mut AnyMode, end: Listening) -> Result<End, CaseFault> {
     let tube = case.bytes(Input::Tube)?;
     let mut out = case.part(Input::Out, OUT_FILL)?;
     let mut work = case.part(Input::Work, WORK_FILL)?;
@@ -106,16 +92,14 @@ fn open<M: Mode>(case: &mut Case, mode: &mut M, end: Listening) -> Result<Receiv
         work.as_mut_slice(),
     );
     match answer {
-        Ok(pair) => {
-            let (held, opened) = pair;
+        Ok((held, opened)) => {
             put_opened(case, opened, out.as_slice(), work.as_slice())?;
-            Ok(Receiving::Holds(held))
+            Ok(End::Holds(held))
         }
-        Err(pair) => {
-            let (end, fault) = pair;
-            case.see_refused(fault.number(), out.as_slice(), work.as_slice());
-            put_end_fault(case, fault)?;
-            Ok(Receiving::Listens(end))
+        Err((end, fault)) => {
+            case.see_refused(fault, out.as_slice(), work.as_slice());
+            put_fault(case, &fault)?;
+            Ok(End::Listens(end))
         }
     }
 }
@@ -123,10 +107,10 @@ fn open<M: Mode>(case: &mut Case, mode: &mut M, end: Listening) -> Result<Receiv
 fn put_opened(case: &mut Case, opened: Opened, out: &[u8], work: &[u8]) -> Result<(), CaseFault> {
     let (contents, beyond) = out.split_at(opened.contents_len.min(out.len()));
     case.see_accepted(beyond, work);
-    case.put_text("res", "ok")?;
+    case.put("res", "ok")?;
     case.put_number("number", opened.number)?;
-    case.put_number("place", opened.label_at as u64)?;
-    case.put_number("label", opened.label_len as u64)?;
+    case.put_number("place", opened.label.at as u64)?;
+    case.put_number("label", opened.label.len as u64)?;
     case.put_number("length", opened.contents_len as u64)?;
     case.put_number("count", opened.count)?;
     case.put_bytes("contents", contents)

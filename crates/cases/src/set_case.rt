@@ -1,7 +1,7 @@
 // The rule of sets, and the sets that can be looked up.
 use crate::input::Input;
 use crate::line::{Case, CaseFault};
-use crate::refused::put_mode_fault;
+use crate::refused::put_fault;
 use mode::fault::ModeFault;
 use mode::lookup::lookup;
 use mode::set::ParameterSet;
@@ -18,8 +18,8 @@ pub fn read_set(case: &mut Case) -> Result<Result<ParameterSet, ModeFault>, Case
 
 pub fn run_setrule(case: &mut Case) -> Result<(), CaseFault> {
     match read_set(case)? {
-        Ok(_) => case.put_text("res", "ok"),
-        Err(fault) => put_mode_fault(case, fault),
+        Ok(_) => case.put("res", "ok"),
+        Err(fault) => put_fault(case, &fault),
     }
 }
 
@@ -30,10 +30,10 @@ pub fn run_lookup(case: &mut Case) -> Result<(), CaseFault> {
     let tag = case.byte(Input::TagLength)?;
     match lookup(code, cipher, nonce, tag) {
         Some(set) => {
-            case.put_text("res", "ok")?;
+            case.put("res", "ok")?;
             case.put_number("width", u64::from(set.width()))?;
             case.put_number("param", u64::from(set.param()))
         }
-        None => case.put_text("res", "none"),
+        None => case.put("res", "none"),
     }
 }

@@ -1,7 +1,7 @@
 // The five sections of a tube.
 use crate::input::Input;
 use crate::line::{Case, CaseFault};
-use crate::refused::put_tube_fault;
+use crate::refused::put_fault;
 use tube::reading::read;
 use tube::tube::Tube;
 
@@ -12,11 +12,11 @@ pub fn run_tube(case: &mut Case) -> Result<(), CaseFault> {
     let wire = case.bytes(Input::Wire)?;
     match read(wire.as_slice()) {
         Ok(tube) => {
-            case.put_text("res", "ok")?;
+            case.put("res", "ok")?;
             put_sections(case, &tube, wire.as_slice())?;
             put_places(case, &tube)
         }
-        Err(fault) => put_tube_fault(case, fault),
+        Err(fault) => put_fault(case, &fault),
     }
 }
 

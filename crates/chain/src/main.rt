@@ -12,7 +12,7 @@
 mod seals;
 
 use aes::aes128::Aes128;
-use anyhow::anyhow;
+use anyhow::{Context, anyhow};
 use cipher::interface::{Allowance, Cipher};
 use cloc::cloc::Cloc;
 use led::led80::Led80;
@@ -21,18 +21,12 @@ use seals::{seal_long, seal_short};
 use silc::silc::Silc;
 use std::env;
 use std::time::Instant;
-use text::hex::Hex;
+use text::digits::Hex;
 use twine::twine80::Twine80;
 
 // The number of runs that were refused: none, for a cipher without end and a block of its width.
-fn chained<C: Cipher>(cipher: &mut C, block: &mut [u8], count: u64) -> u64 {
-    let mut refused = 0u64;
-    for _ in 0..count {
-        if cipher.run(block).is_err() {
-            refused = refused.saturating_add(1);
-        }
-    }
-    refused
+fn chained<C: Cipher>(cipher: &mut C, block: &mut [u8], count: u64) -> usize {
+    (0..count).filter(|_| cipher.run(block).is_err()).count()
 }
 
 fn timed<C: Cipher + Drop>(
@@ -45,8 +39,7 @@ fn timed<C: Cipher + Drop>(
     let start = Instant::now(rt)?;
     let refused = chained(&mut cipher, block, count);
     let nanos = start.elapsed(rt)?.as_nanos();
-    let last = Hex(block);
-    println!(rt; "{name} {count} {last} {refused} refused")?;
+    println!(rt; "{name} {count} {} {refused} refused", Hex(block))?;
     let each = nanos / u128::from(count.max(1));
     eprintln!(rt; "{name} {nanos} ns, {each} ns a block")?;
     Ok(())
@@ -69,18 +62,11 @@ fn one(rt: &HostRuntime, name: &str, count: u64) -> anyhow::Result<()> {
 }
 
 fn run(rt: &HostRuntime) -> anyhow::Result<()> {
-    let mut count = 0u64;
-    let mut words = 0u64;
-    for word in env::args(rt)?.skip(1) {
-        if words == 0 {
-            count = word.as_str().parse::<u64>()?;
-        } else {
-            one(rt, word.as_str(), count)?;
-        }
-        words = words.saturating_add(1);
-    }
-    if words == 0 {
-        return Err(anyhow!("usage: chain COUNT [NAME...]"));
+    let mut words = env::args(rt)?.skip(1);
+    let count = words.next().context("usage: chain COUNT [NAME...]")?;
+    let count = count.as_str().parse::<u64>()?;
+    for word in words {
+        one(rt, word.as_str(), count)?;
     }
     Ok(())
 }

@@ -1,14 +1,16 @@
 // Sealing the same message again and again.
-use anyhow::anyhow;
+use anyhow::Context;
+use mode::checks::WORK_LENGTH;
 use mode::count::RunCount;
 use mode::interface::Mode;
 use mode::set::ParameterSet;
 use std::time::Instant;
-use text::hex::Hex;
+use text::digits::Hex;
 
 const LONG: usize = 65536;
 
 // How many seals were refused.
+// Kept: seven arguments, as a mode's `seal` takes them.
 fn seal_again<M: Mode>(
     mode: &mut M,
     set: &ParameterSet,
@@ -17,18 +19,22 @@ fn seal_again<M: Mode>(
     out: &mut [u8],
     tag: &mut [u8],
     count: u64,
-) -> u64 {
-    let mut refused = 0u64;
+) -> usize {
     let nonce = [0u8; 12];
-    for _ in 0..count {
-        if mode
-            .seal(set, &nonce, label, contents, out, tag, &mut [0; 64])
+    (0..count)
+        .filter(|_| {
+            mode.seal(
+                set,
+                &nonce,
+                label,
+                contents,
+                out,
+                tag,
+                &mut [0; WORK_LENGTH],
+            )
             .is_err()
-        {
-            refused = refused.saturating_add(1);
-        }
-    }
-    refused
+        })
+        .count()
 }
 
 fn timed<M: Mode>(
@@ -40,18 +46,15 @@ fn timed<M: Mode>(
     out: &mut [u8],
     count: u64,
 ) -> anyhow::Result<()> {
-    let Ok(set) = ParameterSet::new(mode.code(), 16, 12, 16, 0xc2) else {
-        return Err(anyhow!("no such set"));
-    };
-    let Ok(runs) = mode.count(RunCount::Sealing, label.len(), contents.len()) else {
-        return Err(anyhow!("too long"));
-    };
+    let set = ParameterSet::new(mode.code(), 16, 12, 16, 0xc2).context("no such set")?;
+    let runs = mode
+        .count(RunCount::Sealing, label.len(), contents.len())
+        .context("too long")?;
     let mut tag = [0u8; 16];
     let start = Instant::now(rt)?;
     let refused = seal_again(mode, &set, label, contents, out, &mut tag, count);
     let nanos = start.elapsed(rt)?.as_nanos();
-    let last = Hex(&tag);
-    println!(rt; "{name} {count} {last} {refused} refused")?;
+    println!(rt; "{name} {count} {} {refused} refused", Hex(&tag))?;
     let each = nanos.saturating_mul(10) / u128::from(runs.max(1)) / u128::from(count.max(1));
     eprintln!(rt; "{name} {nanos} ns, {runs} runs a seal, {each} tenths of a ns a run")?;
     Ok(())

@@ -14,8 +14,8 @@ pub trait Allowance {
     ghost bounded: { (x : Self) → remaining x < 2 ^ 64 };
 }
 
-// A block cipher under a key: its width in bytes, and the function E on blocks of that width. E is a function of the key alone;
-// each cipher says of which by its `new` and `set_key`.
+// A block cipher under a key: its width in bytes, and the function E on blocks of that width. E is a function of the key alone:
+// of which, the `new` and `set_key` of `Keyed` say.
 pub trait Cipher: Allowance {
     ghost width: { Self → ℕ };
 

@@ -1,156 +1,89 @@
 // CLOC as a mode.
-ghost use Rattle.std.specs.Prelude.{◌≡◌};
-ghost use Rattle.cloc.specs.Cloc.{cloc_of};
-ghost use Rattle.std.proofs.Common.{rules};
-ghost use Rattle.cloc.specs.Undoing.{cloc_lawful};
+ghost use Rattle.std.specs.Prelude.{ℕ, ◌+◌, max};
+ghost use Rattle.blocks.specs.Blocks.{parts};
+ghost use Rattle.cloc.specs.Cloc.{HASH, PRF, full_runs, wrong_tag_runs, cloc_of};
+ghost use Rattle.cloc.specs.Sizes.{length_PRF};
+ghost use Rattle.cloc.specs.Undoing.{cloc_framed, cloc_runs};
 
-use crate::count::{full_count, wrong_tag_count};
-use crate::message::{open_message, seal_message};
+use crate::subroutines::{absorb_ozp, bind_nonce, finish, start};
+use blocks::steps::{count_blocks, run_one};
+use blocks::tweaks::{apply_f2, apply_g1};
+use cipher::fault::CipherFault;
 use cipher::interface::{Allowance, Cipher};
-use mode::checks::{check_fit, check_left, check_limits, check_work};
-use mode::count::RunCount;
-use mode::fault::ModeFault;
-use mode::interface::Mode;
-use mode::set::ParameterSet;
-use mode::work::Wiped;
+use frame::framed::Framed;
+use frame::scheme::Scheme;
 
 // CLOC over this cipher. What is left of its allowance is the cipher's.
-#[derive(Drop)]
-pub struct Cloc<C> {
-    cipher: C,
-}
+pub type Cloc<C> = Framed<ClocScheme, C>;
 
-impl<C: Cipher> Cloc<C> {
-    pub fn new(cipher: C) -> Self
-        ensures { result.cipher ≡ cipher }
-    {
-        Cloc { cipher }
-    }
+// HASH and PRF of CLOC. What runs the cipher hands its fault on; under what the trait requires there is none.
+pub struct ClocScheme;
 
-    // Takes the mode off the cipher.
-    pub fn into_cipher(self) -> C
-        ensures { result ≡ self.cipher }
-    {
-        let Cloc { cipher } = self;
-        cipher
-    }
-}
+impl Scheme for ClocScheme {
+    ghost code = { 1 };
 
-impl<C: Cipher> Allowance for Cloc<C> {
-    ghost remaining = { λ m. C.Allowance.remaining m.cipher };
+    ghost HASH = { HASH };
 
-    ghost bounded = { Prim.search rules };
+    ghost PRF = { PRF };
 
-    fn left(&self) -> u64 {
-        self.cipher.left()
-    }
-}
+    ghost hash_runs = { λ b a. max 1 (parts b a) };
 
-impl<C: Cipher> Mode for Cloc<C> {
-    ghost meaning = { λ m. cloc_of (C.Cipher.width m.cipher) (C.Cipher.E m.cipher) };
+    ghost tag_runs = { λ b x. 1 + parts b x };
 
-    ghost lawful = { λ m. cloc_lawful (C.Cipher.width m.cipher) (C.Cipher.E m.cipher) (C.Cipher.widths m.cipher) (C.Cipher.blocks m.cipher) };
+    ghost full_runs = { full_runs };
 
-    fn code(&self) -> u8 {
+    ghost wrong_tag_runs = { wrong_tag_runs };
+
+    ghost mode = { cloc_of };
+
+    fn code() -> u8 {
         1
     }
 
-    fn width(&self) -> u8 {
-        self.cipher.width() as u8
+    fn full_count(width: usize, label: usize, contents: usize) -> u64 {
+        (count_blocks(width, label).max(1) + 1 + 2 * count_blocks(width, contents)) as u64
     }
 
-    fn count(&self, which: RunCount, label: usize, contents: usize) -> Result<u64, ModeFault> {
-        check_limits(label, contents)?;
-        let b = self.cipher.width();
-        match which {
-            RunCount::Sealing => Ok(full_count(b, label, contents)),
-            RunCount::Opening => Ok(full_count(b, label, contents)),
-            RunCount::WrongTag => Ok(wrong_tag_count(b, label, contents)),
-        }
+    fn wrong_tag_count(width: usize, label: usize, contents: usize) -> u64 {
+        (count_blocks(width, label).max(1) + 1 + count_blocks(width, contents)) as u64
     }
 
-    fn seal(
-        &mut self,
-        set: &ParameterSet,
+    fn hash<C: Cipher>(
+        cipher: &mut C,
+        state: &mut [u8],
+        param: u8,
         nonce: &[u8],
         label: &[u8],
-        contents: &[u8],
-        out: &mut [u8],
-        tag: &mut [u8],
-        work: &mut [u8],
-    ) -> Result<u64, ModeFault> {
-        check_work(work.len())?;
-        let guard = Wiped { bytes: work };
-        let b = self.cipher.width();
-        check_fit(
-            1,
-            b as u8,
-            set,
-            nonce.len(),
-            label.len(),
-            contents.len(),
-            out.len(),
-            tag.len(),
-        )?;
-        let count = full_count(b, label.len(), contents.len());
-        check_left(count, self.cipher.left())?;
-        let (state, rest) = guard.bytes.split_at_mut(b);
-        let (base, _) = rest.split_at_mut(b);
-        seal_message(
-            &mut self.cipher,
-            set.param(),
-            nonce,
-            label,
-            contents,
-            out,
-            tag,
-            state,
-            base,
-        )?;
-        Ok(count)
+    ) -> Result<(), CipherFault> {
+        let b = state.len();
+        if label.len() <= b {
+            start(cipher, state, label)?;
+            bind_nonce(state, param, nonce, label.len() == b);
+            return Ok(());
+        }
+        let (first, others) = label.split_at(b);
+        start(cipher, state, first)?;
+        let full = absorb_ozp(cipher, state, others)?;
+        run_one(cipher, state)?;
+        bind_nonce(state, param, nonce, full);
+        Ok(())
     }
 
-    fn open(
-        &mut self,
-        set: &ParameterSet,
-        nonce: &[u8],
-        label: &[u8],
-        ciphertext: &[u8],
-        tag: &[u8],
-        out: &mut [u8],
-        work: &mut [u8],
-    ) -> Result<u64, ModeFault> {
-        check_work(work.len())?;
-        let guard = Wiped { bytes: work };
-        let b = self.cipher.width();
-        check_fit(
-            1,
-            b as u8,
-            set,
-            nonce.len(),
-            label.len(),
-            ciphertext.len(),
-            out.len(),
-            tag.len(),
-        )?;
-        let count = full_count(b, label.len(), ciphertext.len());
-        check_left(count, self.cipher.left())?;
-        let (state, rest) = guard.bytes.split_at_mut(b);
-        let (base, _) = rest.split_at_mut(b);
-        let same = open_message(
-            &mut self.cipher,
-            set.param(),
-            nonce,
-            label,
-            ciphertext,
-            tag,
-            out,
-            state,
-            base,
-        )?;
-        if !same {
-            return Err(ModeFault::Tag(wrong_tag_count(b, label.len(), ciphertext.len())));
+    fn tag<C: Cipher>(cipher: &mut C, state: &mut [u8], text: &[u8]) -> Result<(), CipherFault> {
+        if text.is_empty() {
+            apply_g1(state);
+            return run_one(cipher, state);
         }
-        Ok(count)
+        apply_f2(state);
+        run_one(cipher, state)?;
+        let full = absorb_ozp(cipher, state, text)?;
+        finish(state, full);
+        run_one(cipher, state)
     }
+
+    ghost means = { cloc_framed };
+
+    ghost runs = { cloc_runs };
+
+    ghost tags = { λ b E w k t param N A C l n. length_PRF b E w k t param N A C l };
 }

@@ -3,6 +3,4 @@
 #![tactic(auto)]
 
 pub mod cloc;
-mod count;
-mod message;
 mod subroutines;

@@ -6,7 +6,8 @@ use Rattle.std.proofs.lemmas.Bool.{cases_lt}
 use Rattle.mode.specs.Work.{work_after}
 use Rattle.tube.specs.Put.{Laid}
 use Rattle.tube.proofs.Laying.{laid_mid}
-use Rattle.exchange.specs.Sends.{bytes_at, lent_work}
+use Rattle.exchange.specs.Receives.{bytes_at}
+use Rattle.exchange.specs.Sends.{lent_work}
 
 -- a part from a place on, of a length
 pub part_is : (at len : ℕ) (bytes : List ℕ) → take (at + len - at) (drop at bytes) ≡ bytes_at bytes at len

@@ -4,4 +4,3 @@ pub mod Counts
 pub mod Handed
 pub mod Lines
 pub mod Laws
-pub mod Starts

@@ -1,21 +1,20 @@
 -- The calls of a receiving end, line by line.
-use Rattle.std.proofs.Common.{◌≡◌, ℕ, ◌+◌, ◌-◌, ◌≤◌, Bool, true, false, List, [], ◌∷◌, ◌++◌, length, take, drop, Ok, Err, Result, sym, refl, ap, ◌∙◌, subst, arith, take-add}
+use Rattle.std.proofs.Common.{◌≡◌, ℕ, ◌+◌, ◌-◌, ◌≤◌, Bool, List, [], ◌∷◌, ◌++◌, length, take, drop, Ok, Result, sym, refl, ap, ◌∙◌, subst, arith, take-add}
 use Rattle.std.proofs.lemmas.List.{take-take, drop-take, drop-drop, append-nil, length-take-le, take-append-drop}
 use Rattle.std.proofs.lemmas.List.Sums.{fold_push}
 use Rattle.mode.specs.Meaning.{Meaning}
+use Rattle.tube.specs.Part.{part}
 use Rattle.link.specs.declared.fault.EndFault.{EndFault}
 use Rattle.receiver.specs.declared.answer.Opened.{Opened}
 use Rattle.receiver.specs.Run.{Run, State, GoesOn}
 use Rattle.receiver.specs.Trace.{Event, opens}
-use Rattle.exchange.specs.declared.records.OpenOrder.{OpenOrder}
 use Rattle.exchange.specs.declared.records.ReceiveCall.{ReceiveCall}
 use Rattle.exchange.specs.declared.records.ReceiveCall.TheVariants as call
 use Rattle.exchange.specs.declared.records.ReceiveLine.{ReceiveLine}
 use Rattle.exchange.specs.declared.records.ReceiveOutcome.{ReceiveOutcome}
 use Rattle.exchange.specs.declared.records.ReceiveOutcome.TheVariants as outcome
-use Rattle.exchange.specs.Sends.{bytes_at, lent_work}
-use Rattle.exchange.specs.Receives.{Fits, Lined, admits, entered, trace_after, size_of, asked, held_after, work_of_line, handed_over}
-use Rattle.exchange.specs.Leads.{OpenTo, Tried, Placed, Leads, LeadsAll, held_by, reach}
+use Rattle.exchange.specs.Receives.{bytes_at, Fits, Lined, entered, trace_after, size_of, asked, held_after, handed_over}
+use Rattle.exchange.specs.Leads.{OpenTo, Leads, LeadsAll, held_by, reach}
 
 -- ---- one open
 
@@ -24,35 +23,6 @@ pub open_to : (m : Meaning) (tube : List ℕ) (r r' work : ℕ) (st : State) (le
 open_to m tube r r' work st left answer x x' st' left' er ex go s floor start past run =
     subst (λ y. Run m s floor start (opens record { tube = tube; room = r'; work = work; answer = answer; contents = y } ∷ past) st' left') ex
     (subst (λ y. Run m s floor start (opens record { tube = tube; room = y; work = work; answer = answer; contents = x } ∷ past) st' left') er (go s floor start past run))
-
-module _ (m : Meaning) (wire out : List ℕ) (order : OpenOrder) (tube : List ℕ) (memory : ℕ) (et : tube ≡ bytes_at wire order.tube_at order.tube_len) (em : memory ≡ order.work)
-    (st : State) (left : ℕ) (st' : State) (left' : ℕ) where
-  from_open : (answer : Result Opened EndFault) (x : List ℕ) → OpenTo m tube order.room memory st left answer x st' left'
-      → OpenTo m (bytes_at wire order.tube_at order.tube_len) order.room order.work st left answer x st' left'
-  from_open answer x h s floor start past r =
-      subst (λ w. Run m s floor start (opens record { tube = bytes_at wire order.tube_at order.tube_len; room = order.room; work = w; answer = answer; contents = x } ∷ past) st' left') em
-      (subst (λ b. Run m s floor start (opens record { tube = b; room = order.room; work = memory; answer = answer; contents = x } ∷ past) st' left') et (h s floor start past r))
-
-  pub leads_from : (o : ReceiveOutcome) → Tried m tube order.room memory out st left o st' left' → Leads m wire out (call.Open order) st left o st' left'
-  leads_from (outcome.Handed a at) h = from_open (Ok a) (bytes_at out at a.contents_len) h
-  leads_from (outcome.Refused f) h = from_open (Err f) [] h
-  leads_from (outcome.Signed k) h = absurd h
-  leads_from outcome.GivenBack h = absurd h
-  leads_from outcome.Passed h = absurd h
-
-pub fits_from : (wire room work used : ℕ) (order : OpenOrder) (o : ReceiveOutcome) → Placed used o → admits wire room work false (call.Open order) ≡ true → Fits wire room work false used (call.Open order) o
-fits_from wire room work used order (outcome.Handed a at) p e = (e, tt, p)
-fits_from wire room work used order (outcome.Refused f) p e = (e, tt)
-fits_from wire room work used order (outcome.Signed k) p e = absurd p
-fits_from wire room work used order outcome.GivenBack p e = absurd p
-fits_from wire room work used order outcome.Passed p e = absurd p
-
-pub work_from : (used : ℕ) (order : OpenOrder) (o : ReceiveOutcome) (work : List ℕ) → Placed used o → lent_work order.work work ≡ work_of_line (call.Open order) o work
-work_from used order (outcome.Handed a at) work p = refl
-work_from used order (outcome.Refused f) work p = refl
-work_from used order (outcome.Signed k) work p = absurd p
-work_from used order outcome.GivenBack work p = absurd p
-work_from used order outcome.Passed work p = absurd p
 
 -- ---- one more line
 pub reach_mono : (lines : List ReceiveLine) (place : ℕ) → place ≤ reach place lines

@@ -1,5 +1,5 @@
 -- The sends, order by order.
-use Rattle.std.proofs.Common.{◌≡◌, ℕ, ◌+◌, ◌-◌, ◌≤◌, Bool, true, false, cond, List, [], ◌∷◌, ◌++◌, length, take, drop, Some, None, fold, Option, sym, refl, ap, ◌∙◌, subst, append_assoc, arith, length-append}
+use Rattle.std.proofs.Common.{◌≡◌, ℕ, ◌+◌, ◌≤◌, Bool, true, false, cond, List, [], ◌∷◌, ◌++◌, length, take, drop, Some, None, Option, sym, refl, ap, ◌∙◌, append_assoc, arith, length-append}
 use borrow.Rule.Slice.PartMut.{put_mid}
 use Rattle.std.proofs.lemmas.List.{append-nil}
 use Rattle.refusal.specs.Cause.{first, unless}
@@ -14,25 +14,12 @@ use Rattle.sender.proofs.Tubes.{sealed_length}
 use Rattle.sender.proofs.Verdicts.{accepted}
 use Rattle.exchange.specs.declared.records.SendOrder.{SendOrder}
 use Rattle.exchange.specs.declared.records.SendOutcome.TheVariants as outcome
-use Rattle.exchange.specs.Sends.{Sends, SentTube, added, passed_over, ordered, bytes_of, outcome_of, tube_in, len_of, lies, label_of, contents_of, verdict_to, work_by, lent_work}
+use Rattle.exchange.specs.Sends.{Sends, SentTube, added, passed_over, bytes_of, outcome_of, tube_in, len_of, work_by, lent_work}
 use Rattle.exchange.proofs.Cuts.{laid_part}
-
--- nothing laid
-pub laid_none : (at : ℕ) (a b : List ℕ) → b ≡ a → Laid at [] a b
-laid_none at a b e pre old h p = e ∙ h ∙ ap (λ x. x ++ drop (length x) old) (sym (append-nil pre))
 
 pub laid_sent : (v : SendVerdict) (at k : ℕ) (before ys : List ℕ) → at + k ≤ length before → ys ≡ send_out v (take k (drop at before)) → length ys ≡ k → Laid at (tube_in v) before (put_mid at k before ys)
 laid_sent (sent x tube) at k before ys fits e l = laid_part at k before tube ys fits e l
 laid_sent (unsent f) at k before ys fits e l = laid_part at k before [] ys fits e l
-
-pub laid_passed : (b : Bool) (xs : List ℕ) (at : ℕ) (w : List ℕ) → b ≡ false → Laid at (cond b xs []) w w
-laid_passed b xs at w e = laid_by (cond b xs []) (ap (λ x. cond x xs []) e)
-  where
-    laid_by : (ys : List ℕ) → ys ≡ [] → Laid at ys w w
-    laid_by ys q = subst (λ z. Laid at z w w) (sym q) (laid_none at w w refl)
-
-pub long_passed : (b : Bool) (xs : List ℕ) → b ≡ false → 0 ≡ length (cond b xs [])
-long_passed b xs e = sym (ap (λ x. length (cond x xs [])) e)
 
 -- a call was made: the part of the work memory lent to it
 pub work_called : (v : SendVerdict) (n : ℕ) (work : List ℕ) → lent_work n work ≡ work_by (outcome_of v) n work
@@ -109,14 +96,3 @@ module _ (bL bP : Bool) (VL VP : SendVerdict) (eb : bL ≡ bP) (ev : VL ≡ VP) 
         laid (bytes_of P.tubes) before (w ∙ ap (λ n. bytes_of P.tubes ++ drop n before) e) e
         ∙ ap (λ t. t ++ drop (length t) before) joins
         ∙ ap (λ n. bytes_of Q.tubes ++ drop n before) (sym (turn_used used len e f))
-
--- a line for every order
-pub lines_long : (m : Meaning) (s : ParameterSet) (bytes : List ℕ) (W K : ℕ) (p : Sends) (orders : List SendOrder)
-    → length (fold (λ q o. ordered m s bytes W K q o) p orders).lines ≡ length p.lines + length orders
-lines_long m s bytes W K p [] = omega arith
-lines_long m s bytes W K p (o ∷ os) =
-    let b = lies (length bytes) (W - length (bytes_of p.tubes)) K o in
-    let v = verdict_to m p.left s p.next bytes o in
-    let h = after b v p o (label_of bytes o) (contents_of bytes o) in
-    lines_long m s bytes W K (ordered m s bytes W K p o) os
-    ∙ omega (arith, ap length h.lines, length-append p.lines (record { order = o; outcome = cond b (outcome_of v) outcome.Passed } ∷ []))

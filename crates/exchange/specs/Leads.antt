@@ -4,16 +4,15 @@ use Rattle.mode.specs.declared.set.ParameterSet.{ParameterSet}
 use Rattle.mode.specs.Meaning.{Meaning}
 use Rattle.link.specs.declared.fault.EndFault.{EndFault}
 use Rattle.receiver.specs.declared.answer.Opened.{Opened}
+use Rattle.receiver.specs.declared.end.End.{End}
+use Rattle.receiver.specs.declared.end.End.TheVariants as the_end
 use Rattle.receiver.specs.Run.{Run, State, listening, holding}
 use Rattle.receiver.specs.Trace.{Event, opens}
 use Rattle.exchange.specs.declared.records.ReceiveCall.{ReceiveCall}
 use Rattle.exchange.specs.declared.records.ReceiveLine.{ReceiveLine}
 use Rattle.exchange.specs.declared.records.ReceiveOutcome.{ReceiveOutcome}
 use Rattle.exchange.specs.declared.records.ReceiveOutcome.TheVariants as outcome
-use Rattle.exchange.specs.declared.state.End.{End}
-use Rattle.exchange.specs.declared.state.End.TheVariants as the_end
-use Rattle.exchange.specs.Sends.{bytes_at}
-use Rattle.exchange.specs.Receives.{entered, trace_after, size_of, held_after}
+use Rattle.exchange.specs.Receives.{bytes_at, entered, trace_after, size_of, held_after}
 
 abbrev pub state_in : End → State
 state_in (the_end.Listens l) = listening l

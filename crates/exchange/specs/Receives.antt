@@ -1,5 +1,6 @@
 -- The calls of a receiving end in an exchange, and the record of what came of them.
-use Rattle.std.specs.Prelude.{◌≡◌, ℕ, ◌+◌, ◌-◌, Bool, true, false, not, ◌&&◌, List, [], ◌∷◌, ◌++◌, Ok, Err, fold, Result, nat_le}
+use Rattle.std.specs.Prelude.{◌≡◌, ℕ, ◌+◌, ◌-◌, Bool, true, false, not, ◌&&◌, List, [], ◌∷◌, ◌++◌, take, drop, Ok, Err, fold, Result, nat_le}
+use Rattle.tube.specs.Part.{part}
 use Rattle.link.specs.declared.fault.EndFault.{EndFault}
 use Rattle.receiver.specs.declared.answer.Opened.{Opened}
 use Rattle.receiver.specs.Trace.{Event, opens, signs, returns}
@@ -8,7 +9,11 @@ use Rattle.exchange.specs.declared.records.ReceiveCall.TheVariants as call
 use Rattle.exchange.specs.declared.records.ReceiveLine.{ReceiveLine}
 use Rattle.exchange.specs.declared.records.ReceiveOutcome.{ReceiveOutcome}
 use Rattle.exchange.specs.declared.records.ReceiveOutcome.TheVariants as outcome
-use Rattle.exchange.specs.Sends.{bytes_at, lent_work}
+use Rattle.exchange.specs.Sends.{lent_work}
+
+-- so many bytes from a place on
+abbrev pub bytes_at : List ℕ → ℕ → ℕ → List ℕ
+bytes_at bytes at len = take len (drop at bytes)
 
 -- ---- the record answers the calls asked
 
@@ -30,7 +35,7 @@ held_after held outcome.Passed = held
 
 -- the state admits a call, and it lies in the parts lent: a wire of so many bytes, so many of the output part left, so much work memory
 abbrev pub admits : ℕ → ℕ → ℕ → Bool → ReceiveCall → Bool
-admits wire room work held (call.Open o) = not held && (nat_le (o.tube_at + o.tube_len) wire && (nat_le o.room room && nat_le o.work work))
+admits wire room work held (call.Open o) = not held && (nat_le (o.tube.at + o.tube.len) wire && (nat_le o.room room && nat_le o.work work))
 admits wire room work held call.Sign = held
 admits wire room work held call.GiveBack = held
 
@@ -61,7 +66,7 @@ call_in x = x.call
 -- the event that an open is, of what was asked
 abbrev pub asked : List ℕ → List Event → ReceiveCall → Result Opened EndFault → List ℕ → List Event
 asked wire past (call.Open o) answer contents =
-    opens record { tube = bytes_at wire o.tube_at o.tube_len; room = o.room; work = o.work; answer = answer; contents = contents } ∷ past
+    opens record { tube = part wire o.tube; room = o.room; work = o.work; answer = answer; contents = contents } ∷ past
 asked wire past call.Sign answer contents = past
 asked wire past call.GiveBack answer contents = past
 

@@ -4,6 +4,7 @@ use Rattle.cipher.specs.Left.{spent}
 use Rattle.mode.specs.declared.set.ParameterSet.{ParameterSet}
 use Rattle.mode.specs.Meaning.{Meaning}
 use Rattle.mode.specs.Work.{work_after}
+use Rattle.tube.specs.Part.{part}
 use Rattle.link.specs.declared.fault.EndFault.{EndFault}
 use Rattle.sender.specs.declared.sent.Sent.{Sent}
 use Rattle.sender.specs.Send.{SendVerdict, sent, unsent, send_verdict, send_answer}
@@ -12,20 +13,16 @@ use Rattle.exchange.specs.declared.records.SendOrder.{SendOrder}
 use Rattle.exchange.specs.declared.records.SendOutcome.{SendOutcome}
 use Rattle.exchange.specs.declared.records.SendOutcome.TheVariants as outcome
 
--- so many bytes from a place on
-abbrev pub bytes_at : List ℕ → ℕ → ℕ → List ℕ
-bytes_at bytes at len = take len (drop at bytes)
-
 abbrev pub label_of : List ℕ → SendOrder → List ℕ
-label_of bytes o = bytes_at bytes o.label_at o.label_len
+label_of bytes o = part bytes o.label
 
 abbrev pub contents_of : List ℕ → SendOrder → List ℕ
-contents_of bytes o = bytes_at bytes o.contents_at o.contents_len
+contents_of bytes o = part bytes o.contents
 
 -- an order lies in the parts lent: so many bytes, so many of the wire left, so much work memory
 abbrev pub lies : ℕ → ℕ → ℕ → SendOrder → Bool
 lies bytes room work o =
-    nat_le (o.label_at + o.label_len) bytes && (nat_le (o.contents_at + o.contents_len) bytes && (nat_le o.room room && nat_le o.work work))
+    nat_le (o.label.at + o.label.len) bytes && (nat_le (o.contents.at + o.contents.len) bytes && (nat_le o.room room && nat_le o.work work))
 
 -- how its send comes out under the next number k
 abbrev pub verdict_to : Meaning → ℕ → ParameterSet → ℕ → List ℕ → SendOrder → SendVerdict

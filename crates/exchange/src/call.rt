@@ -7,14 +7,15 @@ ghost use Rattle.exchange.specs.Exchanged.{Exchanged, asking, lent, start_causes
 use crate::receives::receive_all;
 use crate::records::{ReceiveCall, ReceiveLine, SendLine, SendOrder};
 use crate::sends::send_all;
-use crate::state::End;
 use link::fault::EndFault;
 use mode::interface::Mode;
 use mode::set::ParameterSet;
+use receiver::end::End;
 use receiver::states::Listening;
 use sender::sending::Sending;
 
 // Both ends, once they are made.
+// Kept: every part that is lent stands by itself, here and in `exchange`, since a struct would hold five `&mut` for one call.
 fn run_both<S: Mode, R: Mode>(
     set: &ParameterSet,
     start: u64,

@@ -5,4 +5,3 @@ mod places;
 mod receives;
 pub mod records;
 mod sends;
-mod state;

@@ -8,11 +8,12 @@ ghost use Rattle.exchange.specs.declared.records.ReceiveCall.TheVariants.{Open a
 
 use crate::places::open_lies;
 use crate::records::{OpenOrder, ReceiveCall, ReceiveLine, ReceiveOutcome};
-use crate::state::End;
 use mode::interface::Mode;
+use receiver::end::End;
 use receiver::states::Listening;
 
 // An open, its contents at a place of the output part.
+// Kept: mode, wire, output part and work memory one by one, here and in the next three, since a struct would hold three `&mut`.
 fn tried<M: Mode>(
     end: Listening,
     mode: &mut M,
@@ -33,6 +34,7 @@ fn tried<M: Mode>(
     ensures work { work.new ≡ work_after work.old }
 {
     let to = used + room;
+    // Kept: each pair is taken apart in a step of its own, since by a pattern in the arm the clause `runs` of a refusal stays open.
     match end.open(mode, tube, &mut out[used..to], work) {
         Ok(pair) => {
             let (held, answer) = pair;
@@ -65,23 +67,17 @@ fn attempt<M: Mode>(
     ensures rest { drop (used + size_of result.1) out.new ≡ drop (used + size_of result.1) out.old }
     ensures work { work.new ≡ work_of_line (Opens order) result.1 work.old }
 {
-    let OpenOrder {
-        tube_at,
-        tube_len,
-        room,
-        work: size,
-    } = order;
     if !open_lies(order, wire.len(), out.len() - used, work.len()) {
         return (End::Listens(end), ReceiveOutcome::Passed);
     }
-    let to = tube_at + tube_len;
+    let size = order.work;
     tried(
         end,
         mode,
-        &wire[tube_at..to],
+        order.tube.part(wire),
         out,
         used,
-        room,
+        order.room,
         &mut work[0..size],
     )
 }
@@ -106,32 +102,18 @@ fn step<M: Mode>(
     ensures rest { drop (used + size_of result.1) out.new ≡ drop (used + size_of result.1) out.old }
     ensures work { work.new ≡ work_of_line call result.1 work.old }
 {
-    match end {
-        End::Listens(end) => match call {
-            ReceiveCall::Open(order) => attempt(end, order, mode, wire, out, used, work),
-            ReceiveCall::Sign => (End::Listens(end), ReceiveOutcome::Passed),
-            ReceiveCall::GiveBack => (End::Listens(end), ReceiveOutcome::Passed),
-        },
-        End::Holds(held) => match call {
-            ReceiveCall::Sign => {
-                let number = held.number();
-                (End::Listens(held.sign()), ReceiveOutcome::Signed(number))
-            }
-            ReceiveCall::GiveBack => (End::Listens(held.give_back()), ReceiveOutcome::GivenBack),
-            ReceiveCall::Open(_) => (End::Holds(held), ReceiveOutcome::Passed),
-        },
-    }
-}
-
-fn size_of(outcome: ReceiveOutcome) -> usize
-    ensures { result ≡ size_of outcome }
-{
-    match outcome {
-        ReceiveOutcome::Handed(answer, _) => answer.contents_len,
-        ReceiveOutcome::Refused(_) => 0,
-        ReceiveOutcome::Signed(_) => 0,
-        ReceiveOutcome::GivenBack => 0,
-        ReceiveOutcome::Passed => 0,
+    match (end, call) {
+        (End::Listens(end), ReceiveCall::Open(order)) => {
+            attempt(end, order, mode, wire, out, used, work)
+        }
+        (End::Holds(held), ReceiveCall::Sign) => {
+            let number = held.number();
+            (End::Listens(held.sign()), ReceiveOutcome::Signed(number))
+        }
+        (End::Holds(held), ReceiveCall::GiveBack) => {
+            (End::Listens(held.give_back()), ReceiveOutcome::GivenBack)
+        }
+        (end, _) => (end, ReceiveOutcome::Passed),
     }
 }
 
@@ -154,14 +136,14 @@ pub(crate) fn receive_all<M: Mode>(
     ensures rest { drop (reach 0 (take (length calls.now) lines.new)) out.new ≡ drop (reach 0 (take (length calls.now) lines.new)) out.old }
     ensures work { work.new ≡ work_after_receives (take (length calls.now) lines.new) work.old }
 {
+    // Kept: the line by its place, since after a zip with `lines.iter_mut()` nothing is known of the lines (open: the clause `asked`).
     let n = calls.len().min(lines.len());
     let mut used = 0;
-    for i in 0..n {
-        let call = calls[i];
+    for (i, &call) in calls[..n].iter().enumerate() {
         let (next, outcome) = step(end, call, mode, wire, out, used, work);
         end = next;
         lines[i] = ReceiveLine { call, outcome };
-        used += size_of(outcome);
+        used += outcome.length();
     }
     end
 }

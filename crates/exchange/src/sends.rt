@@ -2,15 +2,13 @@
 ghost use Rattle.std.specs.Prelude.{◌≡◌, ◌+◌, ◌-◌, ◌≤◌, min, [], ◌++◌, length, take, drop, if◌then◌else◌};
 ghost use Rattle.tube.specs.Put.{Laid};
 ghost use Rattle.sender.specs.Send.{send_left, send_next};
-ghost use Rattle.exchange.specs.Sends.{lies, verdict_to, outcome_of, said_of, tube_in, len_of, work_by, send_all, bytes_of, work_after_sends};
+ghost use Rattle.exchange.specs.Sends.{lies, verdict_to, outcome_of, tube_in, len_of, work_by, send_all, bytes_of, work_after_sends};
 ghost use Rattle.exchange.specs.declared.records.SendOutcome.TheVariants.{Passed};
 
-use crate::places::{bytes_at, order_lies};
+use crate::places::order_lies;
 use crate::records::{SendLine, SendOrder, SendOutcome};
-use link::fault::EndFault;
 use mode::interface::Mode;
 use sender::sending::Sending;
-use sender::sent::Sent;
 
 // One order, its tube after the first bytes of the wire, which are used.
 fn send_one<S: Mode>(
@@ -36,8 +34,8 @@ fn send_one<S: Mode>(
     if !order_lies(order, bytes.len(), wire.len() - used, work.len()) {
         return SendOutcome::Passed;
     }
-    let label = bytes_at(bytes, order.label_at, order.label_len);
-    let contents = bytes_at(bytes, order.contents_at, order.contents_len);
+    let label = order.label.part(bytes);
+    let contents = order.contents.part(bytes);
     let to = used + order.room;
     let size = order.work;
     let answer = end.send(
@@ -47,26 +45,7 @@ fn send_one<S: Mode>(
         &mut wire[used..to],
         &mut work[0..size],
     );
-    said(answer)
-}
-
-fn said(answer: Result<Sent, EndFault>) -> SendOutcome
-    ensures { result ≡ said_of answer }
-{
-    match answer {
-        Ok(sent) => SendOutcome::Sent(sent),
-        Err(fault) => SendOutcome::Refused(fault),
-    }
-}
-
-fn length_of(outcome: SendOutcome) -> usize
-    ensures { result ≡ len_of outcome }
-{
-    match outcome {
-        SendOutcome::Sent(sent) => sent.len,
-        SendOutcome::Refused(_) => 0,
-        SendOutcome::Passed => 0,
-    }
+    SendOutcome::from(answer)
 }
 
 // Every order in turn, as many as there are lines for.
@@ -85,12 +64,12 @@ pub(crate) fn send_all<S: Mode>(
     ensures work { work.new ≡ work_after_sends (send_all (S.Mode.meaning mode.old) end.old.«set» bytes.now (length wire.old) (length work.old) end.old.next (S.Allowance.remaining mode.old) (take (length lines.old) orders.now)).lines work.old }
     ensures same { S.Mode.meaning mode.new ≡ S.Mode.meaning mode.old }
 {
+    // Kept: the line by its place, since after a zip with `lines.iter_mut()` nothing is known of the lines (open: the clause `lines`).
     let n = orders.len().min(lines.len());
     let mut used = 0;
-    for i in 0..n {
-        let order = orders[i];
+    for (i, &order) in orders[..n].iter().enumerate() {
         let outcome = send_one(end, mode, bytes, order, wire, used, work);
         lines[i] = SendLine { order, outcome };
-        used += length_of(outcome);
+        used += outcome.length();
     }
 }

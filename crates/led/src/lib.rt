@@ -1,7 +1,9 @@
 #![tactic(auto)]
 
 mod columns;
+pub mod expanded;
 pub mod led80;
 mod rounds;
-mod subkeys;
+pub mod state;
+pub mod subkeys;
 mod tables;

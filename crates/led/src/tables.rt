@@ -1,9 +1,6 @@
 // S-box and MixColumnsSerial by tables: what two nibbles add to a column. And the constants of the rounds.
-ghost use Rattle.std.specs.Prelude.{◌≡◌, ◌/◌, ◌%◌, ◌<◌, bit_xor};
-ghost use Rattle.led.specs.Led.{constants};
-ghost use Rattle.led.specs.Columns.{part, cells};
-
-use crate::columns::Columns;
+ghost use Rattle.std.specs.Prelude.{◌≡◌, ◌/◌, ◌%◌, bit_xor};
+ghost use Rattle.led.specs.Columns.{part, spread};
 
 // By the nibbles of the rows 0 and 1.
 const UPPER: [u32; 256] = [
@@ -77,15 +74,8 @@ const CONSTANTS: [u32; 48] = [
     0x3333, 0x6666, 0x5555, 0x3232, 0x6464, 0x5151, 0x2222, 0x4444, 0x1010, 0x2121, 0x4242, 0x0404,
 ];
 
-// The first column has the key size, 80, and the numbers of the rows.
-pub(crate) fn constants(n: usize) -> Columns
-    requires { n < 48 }
-    ensures { cells result ≡ constants 80 n }
+pub(crate) fn second_column(round: usize) -> u32
+    ensures { result ≡ spread (round % 48) }
 {
-    Columns {
-        a: 0x5423,
-        b: CONSTANTS[n],
-        c: 0,
-        d: 0,
-    }
+    CONSTANTS[round % 48]
 }

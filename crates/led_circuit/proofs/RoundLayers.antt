@@ -4,33 +4,21 @@ use lib.Bits.{bit_xor}
 use Rattle.bits.specs.Lanes.{lane, planes, gathered}
 use Rattle.bits.specs.Linear.{after, value}
 use Rattle.bits.proofs.Everywhere.{everywhere}
-use Rattle.bits.proofs.Lanes.{Fit, Lifts, Is, four, found, wanted, substituted, each_eq, lane_lt, lane_xor, lanes_agree}
-use Rattle.bits.proofs.Lift.{lift_outs}
+use Rattle.bits.proofs.Lanes.{Fit, found, wanted, substituted, each_eq, lane_lt, lane_xor, lanes_agree}
 use Rattle.bits.proofs.Linear.{Additive, interchange}
-use Rattle.present.specs.SBoxCircuit.{gates, places, circuit}
+use Rattle.present.specs.SBoxCircuit.{circuit}
+use Rattle.present.proofs.LayerBits.{S_lt}
+use Rattle.present.proofs.SBoxes.{circuit_is, circuit_lifts}
 use Rattle.led.specs.Led.{S, M, at, xtimes, times, SubCells, ShiftRows, MixColumnsSerial, addRoundKey}
 use Rattle.led_circuit.specs.Planes.{place, cells, shifting, mixing}
-
--- the circuit is the S-box
-circuit_is : Is circuit S
-unfolding circuit
-circuit_is = everywhere [] 16 (λ v. circuit 1 (four v)) (λ v. four (S v)) refl
-
-circuit_lifts : Lifts circuit
-unfolding circuit
-circuit_lifts o x y z t i = lift_outs places gates (x ∷ y ∷ z ∷ t ∷ o ∷ []) i
-
-S_small : (v : ℕ) → v < 16 → S v < 16
-S_small v h = let z : S v - 15 ≡ 0 = everywhere 0 16 (λ k. S k - 15) (λ k. 0) refl v h in omega arith
 
 fits : Fit 64 16 place 4 0x000f_000f_000f_000f 0xffff_ffff_ffff_ffff
 fits = everywhere [] 64 (found 64 place 4 0x000f_000f_000f_000f 0xffff_ffff_ffff_ffff) (wanted place 4) refl
 
-pub sub_cells : (x : ℕ) (ys : List ℕ) → ys ≡ circuit 0xffff_ffff_ffff_ffff (planes 4 x) → cells (gathered 64 4 0x000f_000f_000f_000f ys) ≡ SubCells (cells x)
-sub_cells x ys e =
-    ap (λ v. cells (gathered 64 4 0x000f_000f_000f_000f v)) e
-    ∙ each_eq 16 (lane place (gathered 64 4 0x000f_000f_000f_000f (circuit 0xffff_ffff_ffff_ffff (planes 4 x)))) (λ i. S (lane place x i))
-    (λ i h. substituted 64 16 place 4 0x000f_000f_000f_000f 0xffff_ffff_ffff_ffff fits circuit circuit_lifts S circuit_is S_small x i h)
+pub sub_cells : (x : ℕ) → cells (gathered 64 4 0x000f_000f_000f_000f (circuit 0xffff_ffff_ffff_ffff (planes 4 x))) ≡ SubCells (cells x)
+sub_cells x =
+    each_eq 16 (lane place (gathered 64 4 0x000f_000f_000f_000f (circuit 0xffff_ffff_ffff_ffff (planes 4 x)))) (λ i. S (lane place x i))
+    (λ i h. substituted 64 16 place 4 0x000f_000f_000f_000f 0xffff_ffff_ffff_ffff fits circuit circuit_lifts S circuit_is (λ v _. S_lt v) x i h)
 
 pub plus_is : (x y : ℕ) → cells (bit_xor x y) ≡ addRoundKey (cells y) (cells x)
 plus_is x y = each_eq 16 (lane place (bit_xor x y)) (λ i. bit_xor (lane place x i) (lane place y i)) (λ i h. lane_xor place i x y)

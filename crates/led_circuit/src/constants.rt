@@ -1,14 +1,13 @@
 // The constants of the rounds, by bit planes: the first column has the key size, 80, and the numbers of the rows.
-ghost use Rattle.std.specs.Prelude.{◌≡◌, ◌<◌};
+ghost use Rattle.std.specs.Prelude.{◌≡◌, ◌%◌};
 ghost use Rattle.led.specs.Led.{constants};
 ghost use Rattle.led_circuit.specs.Planes.{cells};
 
 // Those of round n, counted from 0.
 pub(crate) fn round_constants(n: usize) -> u64
-    requires { n < 48 }
-    ensures { cells result ≡ constants 80 n }
+    ensures { cells result ≡ constants 80 (n % 48) }
 {
-    CONSTANTS[n]
+    CONSTANTS[n % 48]
 }
 
 const CONSTANTS: [u64; 48] = [

@@ -1,39 +1,16 @@
 // The layers of a round on bit planes: S-boxes as PRESENT's boolean circuit, rows and columns by shifts and masks.
-ghost use Rattle.std.specs.Prelude.{◌≡◌, [], ◌∷◌};
+ghost use Rattle.std.specs.Prelude.{◌≡◌};
 ghost use Rattle.bits.specs.Linear.{value};
-ghost use Rattle.present.specs.SBoxCircuit.{circuit};
 ghost use Rattle.led.specs.Led.{SubCells};
 ghost use Rattle.led_circuit.specs.Planes.{cells, shifting, doubling, fourfold, eightfold, mixing};
 
-// An S-box on each bit position of four words, that of the lowest bits first.
-fn sboxes(a: u64, b: u64, c: u64, d: u64) -> [u64; 4]
-    ensures { result ≡ circuit 0xffff_ffff_ffff_ffff (a ∷ b ∷ c ∷ d ∷ []) }
-{
-    let t1 = b ^ c;
-    let t2 = c & t1;
-    let t3 = d ^ t2;
-    let p = a ^ t3;
-    let t4 = t1 & t3;
-    let t5 = t1 ^ p;
-    let t6 = t4 ^ c;
-    let t7 = a | t6;
-    let q = t5 ^ t7;
-    let n = a ^ 0xffff_ffff_ffff_ffff;
-    let t8 = t6 ^ n;
-    let s = q ^ t8;
-    let t9 = t8 | t5;
-    let r = t3 ^ t9;
-    [p, q, r, s]
-}
+use present::bitwise::sboxes_apart;
 
+#[tactic(auto, using(crate::proofs::RoundLayers::sub_cells))]
 pub(crate) fn sub_cells(x: u64) -> u64
     ensures { cells result ≡ SubCells (cells x) }
 {
-    let [p, q, r, s] = sboxes(x, x >> 4, x >> 8, x >> 12);
-    (p & 0x000f_000f_000f_000f)
-        | ((q & 0x000f_000f_000f_000f) << 4)
-        | ((r & 0x000f_000f_000f_000f) << 8)
-        | ((s & 0x000f_000f_000f_000f) << 12)
+    sboxes_apart(x, 4, 0x000f_000f_000f_000f)
 }
 
 // The rows 1 and 3 go round by one column, then the rows 2 and 3 by two.
@@ -48,6 +25,7 @@ pub(crate) fn shifted_rows(x: u64) -> u64
         ^ ((y << 2) & 0xcccc_cccc_0000_0000)
 }
 
+// Kept: three functions, since one for all three powers of x would take its two shifts and two masks from each caller.
 // Every nibble times 2, 4 and 8: bit k moves to bit k + 1, k + 2 or k + 3, where x^4 is x + 1.
 fn doubled(x: u64) -> u64
     ensures { result ≡ value 64 doubling x }

@@ -6,5 +6,4 @@ mod constants;
 mod layers;
 pub mod led80;
 mod planes;
-mod rounds;
-mod subkeys;
+mod state;

@@ -1,17 +1,9 @@
 // A state of LED by bit planes: its sixteen nibbles in the lanes of 64 bits.
-ghost use Rattle.std.specs.Prelude.{◌≡◌, ◌<◌};
-ghost use Rattle.bits.specs.Linear.{value, exchange};
+ghost use Rattle.std.specs.Prelude.{◌≡◌};
 ghost use Rattle.bits.specs.Nibbles.{nibbles, bytes};
 ghost use Rattle.led_circuit.specs.Planes.{cells};
 
-// Exchanges the bits under the mask with those so many places above them.
-fn delta_swap(x: u64, places: u32, mask: u64) -> u64
-    requires { places < 64 }
-    ensures { result ≡ value 64 (exchange places mask) x }
-{
-    let t = (x ^ (x >> places)) & mask;
-    x ^ t ^ (t << places)
-}
+use present::bitwise::delta_swap;
 
 // The state of a block, or of a subkey.
 pub(crate) fn loaded(block: [u8; 8]) -> u64

@@ -4,35 +4,48 @@ ghost use Rattle.link.specs.Fault.{number_of, layer_of, values_of};
 ghost use Rattle.link.specs.declared.fault.EndFault.TheVariants.{Mode as InMode, Tube as InTube};
 
 use mode::fault::ModeFault;
+use refusal::interface::Refusal;
 use refusal::layer::Layer;
 use refusal::values::Values;
-use std::fmt;
-use tube::fault::TubeFault;
+use thiserror::Error;
+use tube::fault::{Section, TubeFault};
 
-#[derive(Clone, Copy, PartialEq, Eq, Debug)]
+#[derive(Clone, Copy, PartialEq, Eq, Debug, Error)]
 pub enum EndFault {
     // what a mode's call would refuse, carried whole
+    #[error(transparent)]
     Mode(ModeFault),
     // the tube has the wrong form, carried whole
+    #[error(transparent)]
     Tube(TubeFault),
     // an end can't be made with this start or floor
+    #[error("no end can be made with the number {0}: start from 1 to the last number, floor from 0 to it")]
     Start(u64),
     // the last number, which is this, was sent
+    #[error("the last number, {0}, was sent: change the key and start anew")]
     Last(u64),
-    // the first section that is not the end's: 1 code or param, 2 nonce length, 5 tag length
-    Differs(u8),
+    // the first section that is not the end's: the set for code or param, the number or the tag for its length
+    #[error("section {0} of the tube is not of this link's set: it came from another link")]
+    Differs(Section),
     // the number is 0 or above the last
+    #[error("the tube's number is 0 or above the last of this link")]
     Range,
     // the number is too old to tell: it, and the highest number
+    #[error("the number {0} is too old: {1} was signed, and only 64 numbers are kept")]
     Old(u64, u64),
     // the number was signed, or is not above the floor
+    #[error("the number {0} was signed before, or is not above the floor: this tube came twice")]
     Signed(u64),
 }
 
-impl EndFault {
-    pub fn number(&self) -> u8
-        ensures { result ≡ number_of self.now }
-    {
+impl Refusal for EndFault {
+    ghost number_of = { number_of };
+
+    ghost layer_of = { layer_of };
+
+    ghost values_of = { values_of };
+
+    fn number(&self) -> u8 {
         match self {
             EndFault::Mode(fault) => fault.number(),
             EndFault::Tube(fault) => fault.number(),
@@ -45,10 +58,7 @@ impl EndFault {
         }
     }
 
-    // The layer that the number names: a carried fault's own.
-    pub fn layer(&self) -> Layer
-        ensures { result ≡ layer_of self.now }
-    {
+    fn layer(&self) -> Layer {
         match self {
             EndFault::Mode(fault) => fault.layer(),
             EndFault::Tube(fault) => fault.layer(),
@@ -56,9 +66,7 @@ impl EndFault {
         }
     }
 
-    pub fn values(&self) -> Values
-        ensures { result ≡ values_of self.now }
-    {
+    fn values(&self) -> Values {
         match self {
             EndFault::Mode(fault) => fault.values(),
             EndFault::Tube(fault) => fault.values(),
@@ -72,6 +80,7 @@ impl EndFault {
     }
 }
 
+// Kept: by hand, here and below, since contracts cite what they give.
 impl From<ModeFault> for EndFault {
     ghost from_gives = { λ x y. y ≡ InMode x };
 
@@ -85,45 +94,5 @@ impl From<TubeFault> for EndFault {
 
     fn from(fault: TubeFault) -> EndFault {
         EndFault::Tube(fault)
-    }
-}
-
-impl fmt::Display for EndFault {
-    fn fmt<W: fmt::Write>(&self, f: &mut fmt::Formatter<W>) -> fmt::Result {
-        match self {
-            EndFault::Mode(fault) => write!(f, "{fault}"),
-            EndFault::Tube(fault) => write!(f, "{fault}"),
-            EndFault::Start(number) => {
-                write!(
-                    f,
-                    "no end can be made with the number {number}: start from 1 to the last number, floor from 0 to it"
-                )
-            }
-            EndFault::Last(last) => {
-                write!(
-                    f,
-                    "the last number, {last}, was sent: change the key and start anew"
-                )
-            }
-            EndFault::Differs(section) => {
-                write!(
-                    f,
-                    "section {section} of the tube is not of this link's set: it came from another link"
-                )
-            }
-            EndFault::Range => f.write_str("the tube's number is 0 or above the last of this link"),
-            EndFault::Old(number, high) => {
-                write!(
-                    f,
-                    "the number {number} is too old: {high} was signed, and only 64 numbers are kept"
-                )
-            }
-            EndFault::Signed(number) => {
-                write!(
-                    f,
-                    "the number {number} was signed before, or is not above the floor: this tube came twice"
-                )
-            }
-        }
     }
 }

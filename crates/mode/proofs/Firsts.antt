@@ -1,11 +1,10 @@
 -- The first cause of a table that is made of parts, and what the checks of the parts say of it.
-use Rattle.std.proofs.Common.{◌≡◌, ℕ, ◌≤◌, Bool, true, false, cond, not, List, [], ◌∷◌, ◌++◌, Some, None, Ok, Err, Option, Result, sym, refl, ap, ◌∙◌, subst, arith}
-use Rattle.std.proofs.lemmas.Bool.{le-leb, eq-eqb, leb-true, eqb-true}
+use Rattle.std.proofs.Common.{◌≡◌, ℕ, ◌≤◌, Bool, true, false, cond, not, List, [], ◌∷◌, ◌++◌, Some, None, Ok, Err, Option, Result, sym, refl, ap, ◌∙◌, arith}
+use Rattle.std.proofs.lemmas.Bool.{le-leb, eq-eqb}
 use Rattle.refusal.specs.Cause.{Cause, first, unless}
 use Rattle.mode.specs.declared.fault.ModeFault.{ModeFault}
 use Rattle.mode.specs.declared.set.ParameterSet.{ParameterSet}
-use Rattle.mode.specs.Causes.{checked, work_causes, limit_causes, fit_causes, left_causes, Fits}
-use Rattle.mode.specs.Opening.{left_after}
+use Rattle.mode.specs.Causes.{checked, work_causes, fit_causes, left_causes, Fits}
 
 never : {A : Type 0} → ◌≡◌ {A = ℕ} 0 1 → A
 never z = absurd (omega arith)
@@ -46,19 +45,6 @@ module _ {F : Type 0} where
   first_none [] e = tt
   first_none (x ∷ xs) e = let h = none_by x.applies x.names (first xs) e in (h.0, first_none xs h.1)
 
-  -- what holds of the fault of every line holds of the first
-  abbrev pub AllNames : (F → Type 0) → List (Cause F) → Type 0
-  AllNames P [] = Unit {0}
-  AllNames P (x ∷ xs) = P x.names × AllNames P xs
-
-  names_by : (P : F → Type 0) (b : Bool) (x f : F) (o : Option F) → cond b (Some x) o ≡ Some f → P x → (o ≡ Some f → P f) → P f
-  names_by P true x f o e h k = let q : x ≡ f = cc in subst P q h
-  names_by P false x f o e h k = k e
-
-  pub first_names : (P : F → Type 0) (xs : List (Cause F)) (f : F) → AllNames P xs → first xs ≡ Some f → P f
-  first_names P [] f h e = let z : ◌≡◌ {A = ℕ} 0 1 = cc in never z
-  first_names P (x ∷ xs) f h e = names_by P x.applies x.names f (first xs) e h.0 (first_names P xs f h.1)
-
 pub not_not : (b : Bool) → not b ≡ false → b ≡ true
 not_not true e = refl
 not_not false e = let z : ◌≡◌ {A = ℕ} 0 1 = ap (λ x. cond x 1 0) (sym e) in never z
@@ -75,29 +61,10 @@ stopped xs f e = stopped_by (first xs) f e
 pub work_passes : (work : ℕ) → work ≡ 64 → first (work_causes work) ≡ None
 work_passes work e = none_first (work_causes work) (ap not (eq-eqb work 64 e), tt)
 
-pub limits_pass : (a x : ℕ) → a ≤ 4096 → x ≤ 1048576 → first (limit_causes a x) ≡ None
-limits_pass a x h k = none_first (limit_causes a x) (ap not (le-leb a 4096 h), (ap not (le-leb x 1048576 k), tt))
-
 pub left_passes : (runs left : ℕ) → runs ≤ left → first (left_causes runs left) ≡ None
 left_passes runs left h = none_first (left_causes runs left) (ap not (le-leb runs left h), tt)
 
--- a refusal by 6 to 11 takes nothing of what is left
-abbrev pub Unspent : ModeFault → Type 0
-Unspent f = (left : ℕ) → left ≡ left_after f left
-
-pub work_unspent : (work : ℕ) (f : ModeFault) → Err f ≡ checked (work_causes work) → Unspent f
-work_unspent work f e = first_names Unspent (work_causes work) f ((λ left. refl), tt) (stopped (work_causes work) f e)
-
-pub left_unspent : (runs left : ℕ) (f : ModeFault) → Err f ≡ checked (left_causes runs left) → Unspent f
-left_unspent runs left f e = first_names Unspent (left_causes runs left) f ((λ l. refl), tt) (stopped (left_causes runs left) f e)
-
 module _ (code width : ℕ) (s : ParameterSet) (n a x out tag : ℕ) where
-  pub fit_unspent : (f : ModeFault) → Err f ≡ checked (fit_causes code width s n a x out tag) → Unspent f
-  fit_unspent f e =
-      first_names Unspent (fit_causes code width s n a x out tag) f
-      ((λ l. refl), ((λ l. refl), ((λ l. refl), ((λ l. refl), ((λ l. refl), ((λ l. refl), ((λ l. refl), tt)))))))
-      (stopped (fit_causes code width s n a x out tag) f e)
-
   pub fits_passes : Fits code width s n a x out tag → first (fit_causes code width s n a x out tag) ≡ None
   fits_passes h =
       none_first (fit_causes code width s n a x out tag) (
@@ -119,16 +86,3 @@ module _ (code width : ℕ) (s : ParameterSet) (n a x out tag : ℕ) where
           ),
         ),
       )
-
-  pub passes_fits : first (fit_causes code width s n a x out tag) ≡ None → Fits code width s n a x out tag
-  passes_fits e =
-      let h = first_none (fit_causes code width s n a x out tag) e in
-      record {
-        codes = eqb-true s.code code (not_not _ h.0);
-        widths = eqb-true s.width width (not_not _ h.1.0);
-        nonces = eqb-true n s.nonce (not_not _ h.1.1.0);
-        labels = leb-true a 4096 (not_not _ h.1.1.1.0);
-        texts = leb-true x 1048576 (not_not _ h.1.1.1.1.0);
-        outs = eqb-true out x (not_not _ h.1.1.1.1.1.0);
-        tags = eqb-true tag s.tag (not_not _ h.1.1.1.1.1.1.0);
-      }

@@ -3,6 +3,7 @@ use Rattle.std.specs.Prelude.{ℕ, ◌+◌, not, ◌&&◌, ◌||◌, List, [], �
 use Rattle.refusal.specs.Cause.{Cause, first, unless}
 use Rattle.mode.specs.declared.fault.ModeFault.{ModeFault}
 use Rattle.mode.specs.declared.fault.ModeFault.TheVariants.{Set}
+use Rattle.mode.specs.declared.set.field.SetField.TheVariants.{Code, Width, Nonce, Tag}
 use Rattle.mode.specs.declared.set.ParameterSet.{ParameterSet}
 
 -- the five fields of a set, by which it is known
@@ -19,10 +20,10 @@ fields_of s = record { code = s.code; width = s.width; nonce = s.nonce; tag = s.
 -- the rule, field by field: code 1 or 2, width 8 or 16, nonce from 1 to width - 2, tag from 1 to width
 abbrev pub set_causes : ℕ → ℕ → ℕ → ℕ → List (Cause ModeFault)
 set_causes code width nonce tag =
-    record { applies = not (code == 1 || code == 2); names = Set 1 }
-    ∷ record { applies = not (width == 8 || width == 16); names = Set 2 }
-    ∷ record { applies = not (nat_le 1 nonce && nat_le (nonce + 2) width); names = Set 3 }
-    ∷ record { applies = not (nat_le 1 tag && nat_le tag width); names = Set 4 }
+    record { applies = not (code == 1 || code == 2); names = Set Code }
+    ∷ record { applies = not (width == 8 || width == 16); names = Set Width }
+    ∷ record { applies = not (nat_le 1 nonce && nat_le (nonce + 2) width); names = Set Nonce }
+    ∷ record { applies = not (nat_le 1 tag && nat_le tag width); names = Set Tag }
     ∷ []
 
 -- what making a set of these fields comes to

@@ -53,6 +53,7 @@ pub fn check_limits(label: usize, contents: usize) -> Result<(), ModeFault>
 }
 
 // Checks 7 to 10 of a mode's call: the set, and the lengths of nonce, label, contents, output part and tag.
+// Kept: eight arguments, since a struct of the five lengths would be made for one call.
 pub fn check_fit(
     code: u8,
     width: u8,

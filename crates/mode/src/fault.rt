@@ -3,37 +3,52 @@ ghost use Rattle.std.specs.Prelude.{◌≡◌};
 ghost use Rattle.mode.specs.Fault.{number_of, layer_of, values_of};
 ghost use Rattle.mode.specs.declared.fault.ModeFault.TheVariants.{Cipher};
 
+use crate::set::field::SetField;
 use cipher::fault::CipherFault;
+use refusal::interface::Refusal;
 use refusal::layer::Layer;
 use refusal::values::Values;
-use std::fmt;
+use thiserror::Error;
 
-#[derive(Clone, Copy, PartialEq, Eq, Debug)]
+#[derive(Clone, Copy, PartialEq, Eq, Debug, Error)]
 pub enum ModeFault {
     // the cipher refused a call of the mode's
+    #[error(transparent)]
     Cipher(CipherFault),
-    // a field breaks the rule of sets, the first that does: 1 code, 2 width, 3 nonce, 4 tag
-    Set(u8),
+    // a field breaks the rule of sets, the first that does
+    #[error(transparent)]
+    Set(SetField),
     // work memory of this many bytes, where 64 are wanted
+    #[error("the work memory has {0} bytes: lend 64")]
     Work(usize),
     // the set's code or width is not the mode's, which has these
+    #[error("the set is not this mode's: give one of code {0} and width {1}")]
     Foreign(u8, u8),
     // a nonce of this many bytes, where the set says another length
+    #[error("the nonce has {0} bytes: give as many as the set says")]
     Nonce(usize),
     // a label or contents above the limit: the lengths of both
+    #[error("the label has {0} bytes and the contents have {1}: keep to 4096 and 1048576")]
     Long(usize, usize),
     // an output part, or else a tag part, that has not the length wanted
+    #[error("the output part or the tag has the wrong length: give {0} bytes")]
     Part(usize),
     // the call takes more cipher runs than are left: its count, and what is left
+    #[error("the call takes {0} cipher runs and {1} are left: change the key")]
     Short(u64, u64),
     // the tag differs, which it took so many cipher runs to find out
+    #[error("the tag differs: discard the message, which was changed or sealed under another key ({0} cipher runs were made)")]
     Tag(u64),
 }
 
-impl ModeFault {
-    pub fn number(&self) -> u8
-        ensures { result ≡ number_of self.now }
-    {
+impl Refusal for ModeFault {
+    ghost number_of = { number_of };
+
+    ghost layer_of = { layer_of };
+
+    ghost values_of = { values_of };
+
+    fn number(&self) -> u8 {
         match self {
             ModeFault::Cipher(fault) => fault.number(),
             ModeFault::Set(_) => 4,
@@ -47,18 +62,14 @@ impl ModeFault {
         }
     }
 
-    pub fn layer(&self) -> Layer
-        ensures { result ≡ layer_of self.now }
-    {
+    fn layer(&self) -> Layer {
         match self {
             ModeFault::Cipher(fault) => fault.layer(),
             _ => Layer::Mode,
         }
     }
 
-    pub fn values(&self) -> Values
-        ensures { result ≡ values_of self.now }
-    {
+    fn values(&self) -> Values {
         match self {
             ModeFault::Cipher(fault) => fault.values(),
             ModeFault::Set(field) => Values::One(*field as u64),
@@ -73,66 +84,11 @@ impl ModeFault {
     }
 }
 
+// Kept: by hand, since contracts cite what it gives.
 impl From<CipherFault> for ModeFault {
     ghost from_gives = { λ x y. y ≡ Cipher x };
 
     fn from(fault: CipherFault) -> ModeFault {
         ModeFault::Cipher(fault)
-    }
-}
-
-impl fmt::Display for ModeFault {
-    fn fmt<W: fmt::Write>(&self, f: &mut fmt::Formatter<W>) -> fmt::Result {
-        match self {
-            ModeFault::Cipher(fault) => write!(f, "{fault}"),
-            ModeFault::Set(field) => f.write_str(rule_of(*field)),
-            ModeFault::Work(length) => { write!(f, "the work memory has {length} bytes: lend 64") }
-            ModeFault::Foreign(code, width) => {
-                write!(
-                    f,
-                    "the set is not this mode's: give one of code {code} and width {width}"
-                )
-            }
-            ModeFault::Nonce(length) => {
-                write!(
-                    f,
-                    "the nonce has {length} bytes: give as many as the set says"
-                )
-            }
-            ModeFault::Long(label, contents) => {
-                write!(
-                    f,
-                    "the label has {label} bytes and the contents have {contents}: keep to 4096 and 1048576"
-                )
-            }
-            ModeFault::Part(wanted) => {
-                write!(
-                    f,
-                    "the output part or the tag has the wrong length: give {wanted} bytes"
-                )
-            }
-            ModeFault::Short(count, left) => {
-                write!(
-                    f,
-                    "the call takes {count} cipher runs and {left} are left: change the key"
-                )
-            }
-            ModeFault::Tag(count) => {
-                write!(
-                    f,
-                    "the tag differs: discard the message, which was changed or sealed under another key ({count} cipher runs were made)"
-                )
-            }
-        }
-    }
-}
-
-// What each field of a set has to keep.
-fn rule_of(field: u8) -> &'static str {
-    match field {
-        1 => "the set's code is wrong: it is 1 for CLOC or 2 for SILC",
-        2 => "the set's width is wrong: it is 8 or 16",
-        3 => "the set's nonce length is wrong: it goes from 1 to the width less 2",
-        _ => "the set's tag length is wrong: it goes from 1 to the width",
     }
 }

@@ -27,6 +27,8 @@ pub trait Mode: Allowance {
     fn count(&self, which: RunCount, label: usize, contents: usize) -> Result<u64, ModeFault>
         ensures { result ≡ counted (meaning self.now) which label contents };
 
+    // Kept: the inputs of an authenticated cipher one by one, here and in `open`, as its callers have them; the parts are lent. Each clause
+    // spells out how the call comes out, since no two clauses share a name for it.
     // Writes ciphertext and tag, and answers the count of cipher runs. A refusal leaves both parts and the allowance as they were.
     fn seal(
         &mut self,

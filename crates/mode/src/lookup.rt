@@ -1,7 +1,7 @@
 // The sets that the CLOC and SILC v3 submission names.
-ghost use Rattle.std.specs.Prelude.{◌≡◌, ◌+◌, ◌<◌, ◌≤◌};
-ghost use Rattle.mode.specs.Columns.{wide_tags, wide_column, narrow_tags, narrow_column};
-ghost use Rattle.mode.specs.Recommended.{recommended, found, cloc, silc};
+ghost use Rattle.std.specs.Prelude.{◌≡◌, ◌≤◌, ◌⊎◌};
+ghost use Rattle.mode.specs.Columns.{nonce_place, tag_place, column};
+ghost use Rattle.mode.specs.Recommended.{recommended};
 ghost use Rattle.mode.specs.Set.{shown_option};
 
 use crate::set::ParameterSet;
@@ -10,94 +10,54 @@ use crate::set::ParameterSet;
 pub fn lookup(code: u8, cipher: &str, nonce: u8, tag: u8) -> Option<ParameterSet>
     ensures { shown_option result ≡ recommended code cipher.now nonce tag }
 {
-    match code {
-        1 => cloc_set(cipher, nonce, tag),
-        2 => silc_set(cipher, nonce, tag),
+    match (code, cipher) {
+        (1 | 2, "AES-128") => row(code, 16, 0xc0, nonce, tag),
+        (1, "TWINE-80") => row(code, 8, 0xc4, nonce, tag),
+        (2, "PRESENT-80") => row(code, 8, 0xc4, nonce, tag),
+        (2, "LED-80") => row(code, 8, 0xc8, nonce, tag),
         _ => None,
     }
 }
 
-fn cloc_set(cipher: &str, nonce: u8, tag: u8) -> Option<ParameterSet>
-    ensures { shown_option result ≡ found 1 cipher.now nonce tag cloc }
+// The row of a cipher whose blocks have so many bytes, and whose params count up from a first.
+fn row(code: u8, width: u8, first: u8, nonce: u8, tag: u8) -> Option<ParameterSet>
+    requires code { (1 ≤ code) × (code ≤ 2) }
+    requires width { (width ≡ 8) ⊎ (width ≡ 16) }
+    requires first { first ≤ 200 }
+    ensures { shown_option result ≡ column code width first nonce tag }
 {
-    match cipher {
-        "AES-128" => wide(1, nonce, tag),
-        "TWINE-80" => narrow(1, 0xc4, nonce, tag),
-        _ => None,
-    }
-}
-
-fn silc_set(cipher: &str, nonce: u8, tag: u8) -> Option<ParameterSet>
-    ensures { shown_option result ≡ found 2 cipher.now nonce tag silc }
-{
-    match cipher {
-        "AES-128" => wide(2, nonce, tag),
-        "PRESENT-80" => narrow(2, 0xc4, nonce, tag),
-        "LED-80" => narrow(2, 0xc8, nonce, tag),
-        _ => None,
-    }
-}
-
-// A cipher with blocks of 16 bytes.
-fn wide(code: u8, nonce: u8, tag: u8) -> Option<ParameterSet>
-    requires { (1 ≤ code) × (code ≤ 2) }
-    ensures { shown_option result ≡ wide_column code nonce tag }
-{
-    match nonce {
-        12 => wide_tag(code, nonce, tag, 0xc0),
-        8 => wide_tag(code, nonce, tag, 0xd0),
-        14 => wide_tag(code, nonce, tag, 0xe0),
-        _ => None,
-    }
-}
-
-fn wide_tag(code: u8, nonce: u8, tag: u8, first: u8) -> Option<ParameterSet>
-    requires { (1 ≤ code) × (code ≤ 2) × (1 ≤ nonce) × (nonce ≤ 14) × (first ≤ 240) }
-    ensures { shown_option result ≡ wide_tags code nonce tag first }
-{
-    let place = match tag {
-        8 => 0,
-        12 => 1,
-        16 => 2,
-        4 => 3,
-        _ => return None,
-    };
+    let n = nonce_place(width, nonce)?;
+    let t = tag_place(width, tag)?;
     Some(ParameterSet {
         code,
-        width: 16,
+        width,
         nonce,
         tag,
-        param: first + place,
+        param: first + 16 * n + t,
     })
 }
 
-// A cipher with blocks of 8 bytes.
-fn narrow(code: u8, first: u8, nonce: u8, tag: u8) -> Option<ParameterSet>
-    requires { (1 ≤ code) × (code ≤ 2) × (first ≤ 224) }
-    ensures { shown_option result ≡ narrow_column code first nonce tag }
+// Where a nonce length stands among those of this width.
+fn nonce_place(width: u8, nonce: u8) -> Option<u8>
+    ensures { result ≡ nonce_place width nonce }
 {
-    match nonce {
-        6 => narrow_tag(code, nonce, tag, first),
-        4 => narrow_tag(code, nonce, tag, first + 0x10),
+    match (width, nonce) {
+        (16, 12) | (8, 6) => Some(0),
+        (16, 8) | (8, 4) => Some(1),
+        (16, 14) => Some(2),
         _ => None,
     }
 }
 
-fn narrow_tag(code: u8, nonce: u8, tag: u8, first: u8) -> Option<ParameterSet>
-    requires { (1 ≤ code) × (code ≤ 2) × (1 ≤ nonce) × (nonce ≤ 6) × (first ≤ 240) }
-    ensures { shown_option result ≡ narrow_tags code nonce tag first }
+// Where a tag length stands among those of this width.
+fn tag_place(width: u8, tag: u8) -> Option<u8>
+    ensures { result ≡ tag_place width tag }
 {
-    let place = match tag {
-        4 => 0,
-        6 => 1,
-        8 => 2,
-        _ => return None,
-    };
-    Some(ParameterSet {
-        code,
-        width: 8,
-        nonce,
-        tag,
-        param: first + place,
-    })
+    match (width, tag) {
+        (16, 8) | (8, 4) => Some(0),
+        (16, 12) | (8, 6) => Some(1),
+        (16, 16) | (8, 8) => Some(2),
+        (16, 4) => Some(3),
+        _ => None,
+    }
 }

@@ -39,7 +39,7 @@ pLayers_lt (suc n) x h = pLayer_lt (pLayers n x)
 S_small : ℕ → ℕ → Bool
 S_small k s = ltb s 16
 
-S_lt : (x : ℕ) → S x < 16
+pub S_lt : (x : ℕ) → S x < 16
 unfolding S_small
 S_lt x =
     ⊎_elim (λ l. ltb→lt (S x) 16 (at S_small sbox tt x l)) (λ g. subst (λ t. t < 16) (sym (get_or_past sbox x 0 g)) (lit< tt)) (cases_lt x 16)

@@ -1,5 +1,5 @@
-mod LayerBits
-mod SBoxes
+pub mod LayerBits
+pub mod SBoxes
 mod Permutation
 mod Register
 mod Rounds

@@ -1,5 +1,7 @@
 -- Three rounds of the cipher, and its end.
-use Rattle.std.proofs.Common.{◌≡◌, ℕ, ◌+◌, ◌*◌, ◌%◌, ◌<◌, List, get_or, sym, refl, ap, ◌∙◌, add-one, arith}
+use Rattle.std.proofs.Common.{◌≡◌, ℕ, zero, suc, ◌+◌, ◌*◌, ◌%◌, ◌<◌, List, [], drop, get_or, sym, refl, ap, ◌∙◌, add-one, arith}
+use Rattle.std.specs.Simd.{first_chunks}
+use Rattle.std.proofs.lemmas.List.{get_or-take, get_or-drop}
 use lib.Bits.{bit_xor}
 use Rattle.present.specs.Present.{pLayer, sBoxLayer, round, rounds, round_key, encrypt}
 use Rattle.present.specs.Block.{number}
@@ -41,3 +43,11 @@ module _ (key keys : List ℕ) (whole : RoundKeys key keys) where
       let p = rounds_more K state 30 in
       let q = pLayer_xor s (get_or keys 31 0) in
       cc
+
+-- the keys of three rounds, of the keys by threes
+pub chunk_at : (k i j : ℕ) (xs : List ℕ) → i < k → j < 3 → get_or (get_or (first_chunks 3 k xs) i []) j 0 ≡ get_or xs (3 * i + j) 0
+chunk_at zero i j xs h l = absurd (omega arith)
+chunk_at (suc k) zero j xs h l = get_or-take 3 xs j 0 l ∙ ap (λ m. get_or xs m 0) (let e : j ≡ 0 + j = omega arith in e)
+chunk_at (suc k) (suc i) j xs h l =
+    let e : 3 + (3 * i + j) ≡ 3 * suc i + j = omega arith in
+    chunk_at k i j (drop 3 xs) (omega arith) l ∙ get_or-drop 3 xs (3 * i + j) 0 ∙ ap (λ m. get_or xs m 0) e

@@ -2,6 +2,7 @@
 
 #![tactic(auto)]
 
+pub mod bitwise;
 mod layers;
 pub mod present80;
 mod schedule;

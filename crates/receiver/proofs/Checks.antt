@@ -1,55 +1,20 @@
 -- What an open comes to at each of its checks up to 18.
 use Rattle.std.proofs.Common.{◌≡◌, ℕ, not, List, ◌++◌, Some, Ok, Err, Option, Result, sym, refl, ap, ◌∙◌}
 use Rattle.refusal.specs.Cause.{Cause, first, unless}
-use Rattle.mode.specs.declared.fault.ModeFault.{ModeFault}
 use Rattle.mode.specs.declared.set.ParameterSet.{ParameterSet}
 use Rattle.mode.specs.Meaning.{Meaning}
-use Rattle.mode.specs.Causes as mode
 use Rattle.mode.specs.Causes.{work_causes, foreign_causes}
 use Rattle.mode.specs.Opening.{given}
-use Rattle.mode.proofs.Firsts.{stops, passes, stopped as mode-stopped, work_passes, none_first}
+use Rattle.mode.proofs.Firsts.{stops, passes, work_passes, none_first}
 use Rattle.std.proofs.lemmas.Bool.{eq-eqb}
-use Rattle.tube.specs.declared.fault.TubeFault.{TubeFault}
 use Rattle.tube.specs.declared.tube.Tube.{Tube}
 use Rattle.tube.specs.Read.{parsed}
 use Rattle.ledger.specs.declared.standing.Standing.{Standing}
 use Rattle.link.specs.declared.fault.EndFault.{EndFault}
-use Rattle.link.specs.declared.fault.EndFault.TheVariants as fault
 use Rattle.link.specs.Numbers.{last_of}
-use Rattle.receiver.specs.Open.{carried, sections, ours_causes, number_causes, due_causes, last_causes, open_causes, open_verdict, last_verdict, opening, answer_to, Verdict, handed, refused, answer_of, out_of, left_of, checked}
+use Rattle.receiver.specs.Open.{carried, sections, due_causes, last_causes, open_causes, open_verdict, last_verdict, opening, answer_to, Verdict, handed, refused, answer_of, out_of, left_of}
 use Rattle.receiver.specs.Trace.{Ours, fault_count}
-use Rattle.receiver.proofs.Tables.{carried_stops, carried_none, stopped, passed, free_first, free_left}
-
--- ---- 14 to 18
-module _ (s : ParameterSet) (last high : ℕ) (stands : ℕ → Standing) (read : Result Tube TubeFault) where
-  due_answer : (f : EndFault) → first (due_causes s last high stands read) ≡ Some f → ◌≡◌ {A = Result Tube EndFault} (Err f) (unless (first (due_causes s last high stands read)) Err (Ok (sections read)))
-  due_answer f e = sym (ap (λ o. unless {V = Result Tube EndFault} o Err (Ok (sections read))) e)
-
-  -- refused by 14
-  pub due_form : (f : TubeFault) → Err f ≡ read → ◌≡◌ {A = Result Tube EndFault} (Err (fault.Tube f)) (unless (first (due_causes s last high stands read)) Err (Ok (sections read)))
-  due_form f e = due_answer (fault.Tube f) (ap (λ r. first (due_causes s last high stands r)) (sym e))
-
-  module _ (t : Tube) (q : Ok t ≡ read) where
-    after_form : first (due_causes s last high stands read) ≡ first (ours_causes s t ++ number_causes last high (stands t.number) t.number)
-    after_form = ap (λ r. first (due_causes s last high stands r)) (sym q)
-
-    -- refused by 15
-    pub due_ours : (f : EndFault) → Err f ≡ checked (ours_causes s t) → ◌≡◌ {A = Result Tube EndFault} (Err f) (unless (first (due_causes s last high stands read)) Err (Ok (sections read)))
-    due_ours f e = due_answer f (after_form ∙ stops (ours_causes s t) (number_causes last high (stands t.number) t.number) f (stopped (first (ours_causes s t)) tt f e))
-
-    module _ (o : Ok tt ≡ checked (ours_causes s t)) where
-      after_ours : first (due_causes s last high stands read) ≡ first (number_causes last high (stands t.number) t.number)
-      after_ours = after_form ∙ passes (ours_causes s t) (number_causes last high (stands t.number) t.number) (passed (first (ours_causes s t)) tt tt o).0
-
-      -- refused by 16, 17 or 18
-      pub due_number : (f : EndFault) → Err f ≡ checked (number_causes last high (stands t.number) t.number) → ◌≡◌ {A = Result Tube EndFault} (Err f) (unless (first (due_causes s last high stands read)) Err (Ok (sections read)))
-      due_number f e = due_answer f (after_ours ∙ stopped (first (number_causes last high (stands t.number) t.number)) tt f e)
-
-      -- due
-      pub due_passes : Ok tt ≡ checked (number_causes last high (stands t.number) t.number) → ◌≡◌ {A = Result Tube EndFault} (Ok t) (unless (first (due_causes s last high stands read)) Err (Ok (sections read)))
-      due_passes e =
-          ap (λ r. Ok (sections r)) q
-          ∙ sym (ap (λ o. unless {V = Result Tube EndFault} o Err (Ok (sections read))) (after_ours ∙ (passed (first (number_causes last high (stands t.number) t.number)) tt tt e).0))
+use Rattle.receiver.proofs.Tables.{carried_none, stopped, passed, free_first, free_left}
 
 -- ---- a verdict that is a refusal without cost
 pub record Denied (v : Verdict) (f : EndFault) (out : List ℕ) (left : ℕ) : Type 0 where
@@ -74,21 +39,9 @@ module _ (m : Meaning) (left : ℕ) (s : ParameterSet) (high : ℕ) (stands : �
   by : (o : Option EndFault) → first (open_causes m left s high stands bytes out work) ≡ o → open_verdict m left s high stands bytes out work ≡ unless o refused good
   by o e = ap (λ p. unless p refused good) e
 
-  -- refused by 6
-  pub open_work : (f : ModeFault) → Err f ≡ mode.checked (work_causes work) → (open_verdict m left s high stands bytes out work ≡ refused (fault.Mode f)) × (fault_count (fault.Mode f) ≡ 0)
-  open_work f e =
-      let c : first (carried (work_causes work)) ≡ Some (fault.Mode f) = carried_stops (work_causes work) f (mode-stopped (work_causes work) f e) in
-      (by (Some (fault.Mode f)) (stops (carried (work_causes work)) (foreign ++ rest) (fault.Mode f) c), free_first (carried (work_causes work)) (fault.Mode f) (refl, tt) c)
-
   module _ (w : work ≡ 64) where
     after_work : first (open_causes m left s high stands bytes out work) ≡ first (foreign ++ rest)
     after_work = passes (carried (work_causes work)) (foreign ++ rest) (carried_none (work_causes work) (work_passes work w))
-
-    -- refused by 7
-    pub open_foreign : (f : ModeFault) → Err f ≡ mode.checked (foreign_causes m.code m.width s) → (open_verdict m left s high stands bytes out work ≡ refused (fault.Mode f)) × (fault_count (fault.Mode f) ≡ 0)
-    open_foreign f e =
-        let c : first foreign ≡ Some (fault.Mode f) = carried_stops (foreign_causes m.code m.width s) f (mode-stopped (foreign_causes m.code m.width s) f e) in
-        (by (Some (fault.Mode f)) (after_work ∙ stops foreign rest (fault.Mode f) c), free_first foreign (fault.Mode f) (refl, (refl, tt)) c)
 
     module _ (k : Ours m s) where
       after_foreign : first (open_causes m left s high stands bytes out work) ≡ first rest

@@ -13,15 +13,6 @@ use Rattle.receiver.specs.Trace.{mode_count, fault_count, count_in}
 pub never : {A : Type 0} → ◌≡◌ {A = ℕ} 0 1 → A
 never z = absurd (omega arith)
 
-carry_by : (b : Bool) (x f : ModeFault) (o : Option ModeFault) (p : Option EndFault) → cond b (Some x) o ≡ Some f → (o ≡ Some f → p ≡ Some (fault.Mode f)) → cond b (Some (fault.Mode x)) p ≡ Some (fault.Mode f)
-carry_by true x f o p e h = cc
-carry_by false x f o p e h = h e
-
--- a cause that stops a mode stops the end
-pub carried_stops : (xs : List (Cause ModeFault)) (f : ModeFault) → first xs ≡ Some f → first (carried xs) ≡ Some (fault.Mode f)
-carried_stops [] f e = never (cc)
-carried_stops (x ∷ xs) f e = carry_by x.applies x.names f (first xs) (first (carried xs)) e (carried_stops xs f)
-
 none_by : (b : Bool) (x : ModeFault) (o : Option ModeFault) (p : Option EndFault) → cond b (Some x) o ≡ None → (o ≡ None → p ≡ None) → cond b (Some (fault.Mode x)) p ≡ None
 none_by true x o p e h = never (cc)
 none_by false x o p e h = h e

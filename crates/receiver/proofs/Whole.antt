@@ -176,7 +176,7 @@ module _ (m : Meaning) (s : ParameterSet) (floor start : ℕ) (law : Lawful m) (
 
   abbrev Inv : List Event → State → ℕ → Type 0
   Inv past (listening l) left = Base past l.set l.ledger left
-  Inv past (holding h) left = Base past h.set h.ledger left × Once s floor h.number past
+  Inv past (holding h) left = Base past h.end.set h.end.ledger left × Once s floor h.number past
 
   -- the verdict by the marks is the verdict by the history
   by_past : (past : List Event) (l : Listening) (left : ℕ) → Base past l.set l.ledger left → (bytes : List ℕ) (out work : ℕ)
@@ -194,12 +194,12 @@ module _ (m : Meaning) (s : ParameterSet) (floor start : ℕ) (law : Lawful m) (
       → Inv (opens o ∷ past) (state_of r) rest
   after_open past l rest o (Ok x) k b ea d =
       let f = d x.1 refl in (
-        subst (λ y. Base (opens o ∷ past) x.0.set y rest) (sym k.1) (subst (λ y. Base (opens o ∷ past) y l.ledger rest) (sym k.0) b),
+        subst (λ z. Base (opens o ∷ past) z.set z.ledger rest) (sym k.0) b,
         record {
-          straight = (x.1, ea, sym k.2);
-          above = subst (λ n. floor < n) (sym k.2) f.0;
-          within = subst (λ n. n ≤ last_of s) (sym k.2) f.1;
-          first = ap (signed floor (signed_in past)) k.2 ∙ f.2;
+          straight = (x.1, ea, sym k.1);
+          above = subst (λ n. floor < n) (sym k.1) f.0;
+          within = subst (λ n. n ≤ last_of s) (sym k.1) f.1;
+          first = ap (signed floor (signed_in past)) k.1 ∙ f.2;
         },
       )
   after_open past l rest o (Err y) k b ea d = subst (λ z. Base (opens o ∷ past) z.set z.ledger rest) (sym k) b

@@ -9,6 +9,7 @@ use Rattle.mode.specs.declared.set.ParameterSet.{ParameterSet}
 use Rattle.mode.specs.Meaning.{Meaning}
 use Rattle.mode.specs.Causes.{work_causes, foreign_causes, left_causes, tag_causes}
 use Rattle.mode.specs.Opening.{given, left_after as left_after_mode}
+use Rattle.tube.specs.declared.fault.Section.TheVariants.{Set, Number, Tag}
 use Rattle.tube.specs.declared.fault.TubeFault.{TubeFault}
 use Rattle.tube.specs.declared.fault.TubeFault.TheVariants.{Form}
 use Rattle.tube.specs.declared.tube.Tube.{Tube}
@@ -40,7 +41,7 @@ sections (Err f) = record {
 }
 
 abbrev pub form_fault : Result Tube TubeFault → TubeFault
-form_fault (Ok t) = Form 0 0
+form_fault (Ok t) = Form Set 0
 form_fault (Err f) = f
 
 -- 14: the tube has the wrong form
@@ -50,10 +51,10 @@ form_causes read = record { applies = not (is_ok read); names = fault.Tube (form
 -- 15: the tube is not of the end's set: section 1, code and param, then the lengths of nonce (section 2) and tag (section 5)
 abbrev pub ours_causes : ParameterSet → Tube → List (Cause EndFault)
 ours_causes s t =
-    record { applies = not (t.code == s.code); names = fault.Differs 1 }
-    ∷ record { applies = not (t.param == s.param); names = fault.Differs 1 }
-    ∷ record { applies = not (t.nonce.len == s.nonce); names = fault.Differs 2 }
-    ∷ record { applies = not (t.tag.len == s.tag); names = fault.Differs 5 }
+    record { applies = not (t.code == s.code); names = fault.Differs Set }
+    ∷ record { applies = not (t.param == s.param); names = fault.Differs Set }
+    ∷ record { applies = not (t.nonce.len == s.nonce); names = fault.Differs Number }
+    ∷ record { applies = not (t.tag.len == s.tag); names = fault.Differs Tag }
     ∷ []
 
 abbrev pub is_old : Standing → Bool
@@ -114,7 +115,7 @@ pub data Verdict : Type 0 where
 
 -- the answer for a tube whose open made so many runs
 abbrev pub answer_to : Tube → ℕ → Opened
-answer_to t runs = record { number = t.number; label_at = t.label.at; label_len = t.label.len; contents_len = t.contents.len; count = runs }
+answer_to t runs = record { number = t.number; label = t.label; contents_len = t.contents.len; count = runs }
 
 -- refused by the first cause that applies, else what opening gives
 abbrev pub open_verdict : Meaning → ℕ → ParameterSet → ℕ → (ℕ → Standing) → List ℕ → ℕ → ℕ → Verdict

@@ -23,13 +23,13 @@ pub record Opens (m : Meaning) (left : ℕ) (l : Listening) (bytes out work : Li
 
 -- what one signature did: the number held is entered
 pub record Signs (h : Holding) (l : Listening) : Type 0 where
-  pub set : l.set ≡ h.set
-  pub entered : Entered h.ledger h.number l.ledger
+  pub set : l.set ≡ h.end.set
+  pub entered : Entered h.end.ledger h.number l.ledger
 
--- what giving back did
+-- what giving back did: the end listens as before
 pub record Returns (h : Holding) (l : Listening) : Type 0 where
-  pub set : l.set ≡ h.set
-  pub ledger : l.ledger ≡ h.ledger
+  pub set : l.set ≡ h.end.set
+  pub ledger : l.ledger ≡ h.end.ledger
 
 -- the event that an open is
 abbrev pub event_of : List ℕ → List ℕ → List ℕ → Result Opened EndFault → List ℕ → Event

@@ -34,14 +34,14 @@ abbrev pub answered : Result (Holding × Opened) (Listening × EndFault) → Res
 answered (Ok x) = Ok x.1
 answered (Err y) = Err y.1
 
--- the end goes on with its set and ledger: holding the number answered, or as it was
+-- the end goes on as it was, and holds the number answered where there is one
 abbrev pub Kept : Listening → Result (Holding × Opened) (Listening × EndFault) → Type 0
-Kept l (Ok x) = (x.0.set ≡ l.set) × (x.0.ledger ≡ l.ledger) × (x.0.number ≡ x.1.number)
+Kept l (Ok x) = (x.0.end ≡ l) × (x.0.number ≡ x.1.number)
 Kept l (Err y) = y.0 ≡ l
 
 -- the label that is answered lies in the tube, and the contents in the output part
 abbrev pub Fits : ℕ → ℕ → Result Opened EndFault → Type 0
-Fits tube out (Ok a) = (a.label_at + a.label_len ≤ tube) × (a.contents_len ≤ out)
+Fits tube out (Ok a) = (a.label.at + a.label.len ≤ tube) × (a.contents_len ≤ out)
 Fits tube out (Err f) = Unit {0}
 
 -- a number that may be held: it may be signed

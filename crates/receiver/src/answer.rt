@@ -1,12 +1,12 @@
 // What an accepted open answers.
-//
-// The tube's number, the place of its label (associated data), counted from the tube's first byte, with its length, the length of the
-// contents, and how many cipher runs it made.
+use tube::span::Span;
+
+// The tube's number, where its label (associated data) stands in the tube, the length of the contents, and how many cipher runs it made.
+// Kept: a length, since the contents stand in memory that the caller lent.
 #[derive(Clone, Copy, PartialEq, Eq, Debug)]
 pub struct Opened {
     pub number: u64,
-    pub label_at: usize,
-    pub label_len: usize,
+    pub label: Span,
     pub contents_len: usize,
     pub count: u64,
 }

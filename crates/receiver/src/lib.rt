@@ -1,5 +1,6 @@
 #![tactic(auto)]
 
 pub mod answer;
+pub mod end;
 pub mod promise;
 pub mod states;

@@ -3,15 +3,11 @@ ghost use Rattle.receiver.specs.Run.{Promise};
 ghost use Rattle.receiver.specs.Sent.{Readable};
 
 // Every list of calls of every receiving end over every mode keeps the promises.
-pub fn promises_hold() -> u8
+pub fn promises_hold()
     ensures { Promise }
-{
-    0
-}
+{}
 
 // Every tube that is written of what a mode's sealing gives is read as it was sealed.
-pub fn tubes_are_read() -> u8
+pub fn tubes_are_read()
     ensures { Readable }
-{
-    0
-}
+{}

@@ -20,12 +20,11 @@ pub struct Listening {
     ghost limit: { ledger.limit ≡ last_of «set» },
 }
 
-// An end that has handed the contents of a tube over and not yet signed its number, which may be signed.
+// An end that has handed the contents of a tube over and not yet signed its number, which may be signed: the end as it listened, and the
+// number.
 #[derive(Drop)]
 pub struct Holding {
-    set: ParameterSet,
-    ledger: Ledger,
+    end: Listening,
     number: u64,
-    ghost limit: { ledger.limit ≡ last_of «set» },
-    ghost due: { may_sign ledger.limit ledger.high ledger.marks number ≡ true },
+    ghost due: { may_sign end.ledger.limit end.ledger.high end.ledger.marks number ≡ true },
 }

@@ -1,4 +1,5 @@
 #![tactic(auto)]
 
+pub mod interface;
 pub mod layer;
 pub mod values;

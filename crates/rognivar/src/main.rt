@@ -6,6 +6,7 @@
 mod cutting;
 mod joining;
 mod messages;
+mod refused;
 mod route;
 mod task;
 mod vectors;

@@ -1,9 +1,11 @@
 // One message under each of the five recommended parameter sets: sealed, opened, damaged and refused.
+use crate::refused::Refused;
 use aes::aes128::Aes128;
 use cipher::interface::{Allowance, Cipher};
 use cipher::meter::Meter;
 use cloc::cloc::Cloc;
 use led::led80::Led80;
+use mode::checks::WORK_LENGTH;
 use mode::fault::ModeFault;
 use mode::interface::Mode;
 use mode::lookup::lookup;
@@ -11,7 +13,7 @@ use mode::set::ParameterSet;
 use present::present80::Present80;
 use silc::silc::Silc;
 use std::io;
-use text::hex::Hex;
+use text::digits::Hex;
 use tube::writing::fill;
 use twine::twine80::Twine80;
 
@@ -26,9 +28,8 @@ const LENGTH: usize = 27;
 const CONTENTS: &[u8; LENGTH] = b"grid line 7: move 120 mm up";
 
 fn refuse(rt: &HostRuntime, fault: ModeFault, left: u64) -> io::Result<()> {
-    let number = fault.number();
-    let layer = fault.layer();
-    println!(rt; "  refused ({number}, {layer}): {fault}; {left} left")
+    let refused = Refused(fault);
+    println!(rt; "  {refused}; {left} left")
 }
 
 // Opens what was sealed, and says whether the contents came back.
@@ -48,7 +49,7 @@ fn open_again<M: Mode>(
         ciphertext,
         tag,
         &mut contents,
-        &mut [0; 64],
+        &mut [0; WORK_LENGTH],
     ) {
         Ok(count) => {
             let left = mode.left();
@@ -79,16 +80,14 @@ fn run_message<M: Mode>(
         CONTENTS,
         &mut ciphertext,
         tag,
-        &mut [0; 64],
+        &mut [0; WORK_LENGTH],
     ) {
         Ok(count) => count,
         Err(fault) => return refuse(rt, fault, mode.left()),
     };
     let left = mode.left();
-    let label = Hex(LABEL);
-    let contents = Hex(CONTENTS);
-    println!(rt; "  label      {label}")?;
-    println!(rt; "  contents   {contents}")?;
+    println!(rt; "  label      {}", Hex(LABEL))?;
+    println!(rt; "  contents   {}", Hex(CONTENTS))?;
     show_sealed(rt, nonce, &ciphertext, tag)?;
     println!(rt; "  sealed: {count} runs, {left} left")?;
     open_again(rt, mode, set, nonce, &ciphertext, tag)?;
@@ -98,12 +97,9 @@ fn run_message<M: Mode>(
 }
 
 fn show_sealed(rt: &HostRuntime, nonce: &[u8], ciphertext: &[u8], tag: &[u8]) -> io::Result<()> {
-    let nonce = Hex(nonce);
-    let ciphertext = Hex(ciphertext);
-    let tag = Hex(tag);
-    println!(rt; "  nonce      {nonce}")?;
-    println!(rt; "  ciphertext {ciphertext}")?;
-    println!(rt; "  tag        {tag}")
+    println!(rt; "  nonce      {}", Hex(nonce))?;
+    println!(rt; "  ciphertext {}", Hex(ciphertext))?;
+    println!(rt; "  tag        {}", Hex(tag))
 }
 
 // The message under the set of a code, a cipher's name, a nonce length and a tag length.
@@ -120,6 +116,7 @@ fn with_set<M: Mode + Drop>(
     let Some(set) = lookup(code, name, n, t) else {
         return println!(rt; "  there is no such set");
     };
+    // Kept: arrays of the most bytes, as a device lends them.
     let mut nonce = [0u8; 14];
     let mut tag = [0u8; 16];
     let size = set.nonce();

@@ -2,9 +2,10 @@
 // together in number order, and compared.
 use crate::cutting::{Cut, cut_sheet, end_of, places};
 use crate::joining::{join, ledger_of, signed_pieces};
-use crate::route::{Route, bad_route, put_altered, put_foreign};
+use crate::refused::Refused;
+use crate::route::{Step, bad_route, put_altered, put_foreign};
 use aes::aes128::Aes128;
-use anyhow::anyhow;
+use anyhow::{Context, ensure};
 use cipher::interface::Allowance;
 use cipher::meter::Meter;
 use cloc::cloc::Cloc;
@@ -14,9 +15,10 @@ use exchange::records::{
 };
 use link::fault::EndFault;
 use link::numbers::last_number;
+use mode::checks::WORK_LENGTH;
 use mode::lookup::lookup;
 use mode::set::ParameterSet;
-use std::fs;
+use std::{fs, io};
 use text::ascii::Ascii;
 use tube::span::Span;
 
@@ -27,95 +29,85 @@ const GRANTED: u64 = 20000;
 // Room behind the tubes for what else comes over the wire.
 const EXTRA: usize = 256;
 
+// What stands in a line before its call is made.
+const NOWHERE: Span = Span { at: 0, len: 0 };
+
+const NOT_SENT: SendLine = SendLine {
+    order: SendOrder {
+        label: NOWHERE,
+        contents: NOWHERE,
+        room: 0,
+        work: 0,
+    },
+    outcome: SendOutcome::Passed,
+};
+
+const NOT_CALLED: ReceiveLine = ReceiveLine {
+    call: ReceiveCall::Sign,
+    outcome: ReceiveOutcome::Passed,
+};
+
 type Link = Cloc<Meter<Aes128>>;
 
 // The link's mode, as both ends have it.
 fn link_mode() -> anyhow::Result<Link> {
     let mut cipher = Aes128::new();
     let key = 0x5c1e_90a7_3b42_d8f6_17e5_6a0d_c493_2b88u128.to_be_bytes();
-    if cipher.set_key(&key).is_err() {
-        return Err(anyhow!("the key was refused"));
-    }
+    cipher.set_key(&key).context("the key was refused")?;
     Ok(Cloc::new(Meter::new(cipher, GRANTED)))
 }
 
-fn refuse(rt: &HostRuntime, fault: EndFault) -> anyhow::Result<()> {
-    let number = fault.number();
-    let layer = fault.layer();
-    println!(rt; "refused ({number}, {layer}): {fault}")?;
-    Ok(())
-}
-
-fn show_sends(rt: &HostRuntime, bytes: &[u8], sent: &[SendLine]) -> anyhow::Result<()> {
+fn show_sends(rt: &HostRuntime, bytes: &[u8], sent: &[SendLine]) -> io::Result<()> {
+    // Kept: only a tube that was sent takes a number, so the place of a line is not its number.
     let mut number = 0u64;
     for line in sent {
         match line.outcome {
             SendOutcome::Sent(answer) => {
                 number = number.saturating_add(1);
                 let order = line.order;
-                let label = Ascii(Span {
-                    at: order.label_at,
-                    len: order.label_len,
-                }
-                .part(bytes));
-                let contents = order.contents_len;
+                let label = Ascii(order.label.part(bytes));
+                let contents = order.contents.len;
                 let len = answer.len;
                 let count = answer.count;
                 println!(rt;
                     "  tube {number}, {label}: {contents} bytes, {len} in the tube, {count} cipher runs"
                 )?;
             }
-            SendOutcome::Refused(fault) => refuse(rt, fault)?,
+            SendOutcome::Refused(fault) => println!(rt; "{}", Refused(fault))?,
             SendOutcome::Passed => println!(rt; "  passed over")?,
         }
     }
     Ok(())
 }
 
-// Where the tube of a call stands in the wire.
-fn tube_place(call: ReceiveCall) -> usize {
+// Where the label of an opened tube stands in the wire.
+fn label_place(call: ReceiveCall, label: Span) -> Span {
     match call {
-        ReceiveCall::Open(order) => order.tube_at,
-        ReceiveCall::Sign => 0,
-        ReceiveCall::GiveBack => 0,
+        ReceiveCall::Open(order) => Span {
+            at: order.tube.at.saturating_add(label.at),
+            ..label
+        },
+        ReceiveCall::Sign | ReceiveCall::GiveBack => label,
     }
 }
 
-fn show_line(rt: &HostRuntime, wire: &[u8], note: &str, line: &ReceiveLine) -> anyhow::Result<()> {
+fn show_line(rt: &HostRuntime, wire: &[u8], note: &str, line: &ReceiveLine) -> io::Result<()> {
     print!(rt; "  {note}: ")?;
     match line.outcome {
         ReceiveOutcome::Handed(opened, _) => {
-            let at = tube_place(line.call).saturating_add(opened.label_at);
-            let label = Ascii(Span {
-                at,
-                len: opened.label_len,
-            }
-            .part(wire));
+            let label = Ascii(label_place(line.call, opened.label).part(wire));
             let number = opened.number;
             let contents = opened.contents_len;
             let count = opened.count;
             println!(rt;
                 "opened as number {number}, {label}, {contents} bytes, {count} cipher runs"
-            )?;
+            )
         }
-        ReceiveOutcome::Refused(fault) => refuse(rt, fault)?,
-        ReceiveOutcome::Signed(number) => println!(rt; "signed for {number}")?,
-        ReceiveOutcome::GivenBack => println!(rt; "given back, nothing signed")?,
-        ReceiveOutcome::Passed => println!(rt; "passed over")?,
+        ReceiveOutcome::Refused(fault) => println!(rt; "{}", Refused(fault)),
+        ReceiveOutcome::Signed(number) => println!(rt; "signed for {number}"),
+        ReceiveOutcome::GivenBack => println!(rt; "given back, nothing signed"),
+        ReceiveOutcome::Passed => println!(rt; "passed over"),
     }
-    Ok(())
-}
-
-fn show_lines(
-    rt: &HostRuntime,
-    wire: &[u8],
-    route: &Route,
-    lines: &[ReceiveLine],
-) -> anyhow::Result<()> {
-    for (note, line) in route.notes.iter().zip(lines.iter()) {
-        show_line(rt, wire, note, line)?;
-    }
-    Ok(())
 }
 
 // Puts the pieces together, and says whether they are the drawing.
@@ -135,44 +127,40 @@ fn compare(
     println!(rt; "the ledger: floor {floor}, highest number {high}, marks {marks:016x}")?;
     let whole = join(heap, pieces.as_slice(), out)?;
     let length = whole.len();
-    if whole.as_slice() == sheet {
-        println!(rt; "the drawing came over whole: {length} bytes, the same byte for byte")?;
-        return Ok(());
-    }
-    Err(anyhow!("the drawing that came is not the drawing that was sent"))
+    ensure!(
+        whole.as_slice() == sheet,
+        "the drawing that came is not the drawing that was sent"
+    );
+    println!(rt; "the drawing came over whole: {length} bytes, the same byte for byte")?;
+    Ok(())
 }
 
-// Both ends, the route between them, and what came of it.
+// What came of an exchange: the lines of both ends, the contents handed over, and what is left to both.
+#[derive(Drop)]
+struct Carried {
+    sent: Vec<SendLine>,
+    lines: Vec<ReceiveLine>,
+    out: Vec<u8>,
+    office_left: u64,
+    site_left: u64,
+}
+
+// Both ends, and the route between them.
 fn carry(
     rt: &HostRuntime,
-    sheet: &[u8],
+    set: ParameterSet,
     parts: &Cut,
     wire: &mut Vec<u8>,
-    route: &Route,
-) -> anyhow::Result<()> {
+    route: &[Step],
+    room: usize,
+) -> anyhow::Result<Result<Carried, EndFault>> {
     let heap = rt.alloc();
-    let Some(set) = lookup(1, "AES-128", 12, 8) else {
-        return Err(anyhow!("there is no such set"));
-    };
     let mut office = link_mode()?;
     let mut site = link_mode()?;
-    let mut out = vec![in heap; 0u8; sheet.len().saturating_mul(2)]?;
-    let no_order = SendOrder {
-        label_at: 0,
-        label_len: 0,
-        contents_at: 0,
-        contents_len: 0,
-        room: 0,
-        work: 0,
-    };
-    let mut sent = vec![in heap; SendLine {
-        order: no_order,
-        outcome: SendOutcome::Passed
-    }; parts.orders.len()]?;
-    let mut lines = vec![in heap; ReceiveLine {
-        call: ReceiveCall::Sign,
-        outcome: ReceiveOutcome::Passed
-    }; route.calls.len()]?;
+    let calls: Vec<ReceiveCall> = route.iter().map(|step| step.call).collect(heap)?;
+    let mut out = vec![in heap; 0u8; room]?;
+    let mut sent = vec![in heap; NOT_SENT; parts.orders.len()]?;
+    let mut lines = vec![in heap; NOT_CALLED; calls.len()]?;
     let came = exchange(
         set,
         1,
@@ -182,25 +170,19 @@ fn carry(
         parts.bytes.as_slice(),
         parts.orders.as_slice(),
         wire.as_mut_slice(),
-        route.calls.as_slice(),
+        calls.as_slice(),
         out.as_mut_slice(),
-        &mut [0; 64],
+        &mut [0; WORK_LENGTH],
         sent.as_mut_slice(),
         lines.as_mut_slice(),
     );
-    if let Err(fault) = came {
-        return refuse(rt, fault);
-    }
-    println!(rt; "the office sends:")?;
-    show_sends(rt, parts.bytes.as_slice(), sent.as_slice())?;
-    println!(rt; "the site receives:")?;
-    show_lines(rt, wire.as_slice(), route, lines.as_slice())?;
-    let office_left = office.left();
-    let site_left = site.left();
-    println!(rt;
-        "left: {office_left} of {GRANTED} cipher runs at the office, {site_left} at the site"
-    )?;
-    compare(rt, &set, sheet, lines.as_slice(), out.as_slice())
+    Ok(came.map(|()| Carried {
+        sent,
+        lines,
+        out,
+        office_left: office.left(),
+        site_left: site.left(),
+    }))
 }
 
 // Puts what else comes over the wire behind the room for the tubes.
@@ -211,19 +193,45 @@ fn put_others(wire: &mut Vec<u8>, end: usize) -> anyhow::Result<(OpenOrder, Open
     let next = foreign.min(rest.len());
     let (_, others) = rest.split_at_mut(next);
     let altered = put_altered(others)?;
-    let first = OpenOrder {
-        tube_at: start,
-        tube_len: foreign,
-        room: EXTRA,
-        work: 64,
+    let first = Span {
+        at: start,
+        len: foreign,
     };
-    let second = OpenOrder {
-        tube_at: start.saturating_add(next),
-        tube_len: altered,
-        room: EXTRA,
-        work: 64,
+    let second = Span {
+        at: start.saturating_add(next),
+        len: altered,
     };
-    Ok((first, second))
+    Ok((other(first), other(second)))
+}
+
+// What came of each call, and what is left.
+fn show(
+    rt: &HostRuntime,
+    parts: &Cut,
+    wire: &[u8],
+    route: &[Step],
+    carried: &Carried,
+) -> io::Result<()> {
+    println!(rt; "the office sends:")?;
+    show_sends(rt, parts.bytes.as_slice(), carried.sent.as_slice())?;
+    println!(rt; "the site receives:")?;
+    for (step, line) in route.iter().zip(carried.lines.iter()) {
+        show_line(rt, wire, step.note, line)?;
+    }
+    let office_left = carried.office_left;
+    let site_left = carried.site_left;
+    println!(rt;
+        "left: {office_left} of {GRANTED} cipher runs at the office, {site_left} at the site"
+    )
+}
+
+// An open of a tube that the office did not send.
+fn other(tube: Span) -> OpenOrder {
+    OpenOrder {
+        tube,
+        room: EXTRA,
+        work: WORK_LENGTH,
+    }
 }
 
 pub fn run_task(rt: &HostRuntime) -> anyhow::Result<()> {
@@ -236,6 +244,20 @@ pub fn run_task(rt: &HostRuntime) -> anyhow::Result<()> {
     let end = end_of(tubes.as_slice());
     let mut wire = vec![in heap; 0u8; end.saturating_add(EXTRA)]?;
     let (foreign, altered) = put_others(&mut wire, end)?;
-    let calls = bad_route(heap, tubes.as_slice(), foreign, altered)?;
-    carry(rt, sheet.as_slice(), &parts, &mut wire, &calls)
+    let route = bad_route(heap, tubes.as_slice(), foreign, altered)?;
+    let set = lookup(1, "AES-128", 12, 8).context("there is no such set")?;
+    let room = length.saturating_mul(2);
+    match carry(rt, set, &parts, &mut wire, route.as_slice(), room)? {
+        Ok(carried) => {
+            show(rt, &parts, wire.as_slice(), route.as_slice(), &carried)?;
+            compare(
+                rt,
+                &set,
+                sheet.as_slice(),
+                carried.lines.as_slice(),
+                carried.out.as_slice(),
+            )
+        }
+        Err(fault) => Ok(println!(rt; "{}", Refused(fault))?),
+    }
 }

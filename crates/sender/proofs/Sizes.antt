@@ -1,5 +1,5 @@
 -- Lengths of parts, and how large a number is.
-use Rattle.std.proofs.Common.{◌≡◌, ℕ, zero, suc, ◌+◌, ◌-◌, ◌*◌, ◌^◌, ◌<◌, ◌≤◌, min, List, [], ◌∷◌, ◌++◌, length, take, drop, refl, ap, ◌∙◌, pow-suc, arith, length-append, length-drop, length-take, pow_pos, pow-add}
+use Rattle.std.proofs.Common.{◌≡◌, ℕ, zero, suc, ◌+◌, ◌-◌, ◌*◌, ◌^◌, ◌<◌, ◌≤◌, min, List, [], ◌∷◌, ◌++◌, length, take, drop, refl, ap, ◌∙◌, pow-suc, arith, length-append, length-drop, pow_pos, pow-add}
 use native.Mathlib.Nat.{pow-le-pow_right}
 use borrow.Rule.Slice.PartMut.{put_mid}
 use Rattle.std.proofs.lemmas.List.{length-take-le}
@@ -10,12 +10,8 @@ use Rattle.link.specs.Numbers.{last_of}
 abbrev pub zeros : List ℕ
 zeros = 0 ∷ 0 ∷ 0 ∷ 0 ∷ 0 ∷ 0 ∷ 0 ∷ 0 ∷ 0 ∷ 0 ∷ 0 ∷ 0 ∷ 0 ∷ 0 ∷ 0 ∷ 0 ∷ []
 
-pub lent_length : (t : ℕ) → t ≤ 16 → length (take (t - 0) zeros) ≡ t
-lent_length t h = length-take (t - 0) zeros ∙ omega arith
-
--- and are there again when they come back
-pub lent_back : (t : ℕ) (ys : List ℕ) → length ys ≡ length (take (t - 0) zeros) → t ≤ 16 → t ≤ length (ys ++ drop (t - 0) zeros)
-lent_back t ys e h = omega (arith, length-append ys (drop (t - 0) zeros), lent_length t h)
+pub lent_length : (t : ℕ) → t ≤ 16 → length (take t zeros) ≡ t
+lent_length t h = length-take-le t zeros h
 
 -- a part from a place on
 pub part_length : (at k : ℕ) (out : List ℕ) → at + k ≤ length out → length (take (at + k - at) (drop at out)) ≡ k

@@ -1,5 +1,5 @@
 -- The tube of a send that passed its checks.
-use Rattle.std.proofs.Common.{◌≡◌, ℕ, ◌+◌, ◌-◌, ◌≤◌, true, List, ◌++◌, length, take, drop, Some, Option, sym, refl, ap, ◌∙◌, subst, arith}
+use Rattle.std.proofs.Common.{◌≡◌, ℕ, ◌+◌, ◌-◌, ◌≤◌, true, List, ◌++◌, length, take, drop, sym, refl, ap, ◌∙◌, subst, arith}
 use borrow.Rule.Slice.PartMut.{put_mid}
 use Rattle.std.proofs.lemmas.List.{take_at}
 use Rattle.std.proofs.lemmas.Bool.{cond-true}
@@ -8,7 +8,7 @@ use Rattle.mode.specs.Meaning.{Meaning, Admitted, Lawful}
 use Rattle.mode.specs.Sealing.{seal_verdict, sealed}
 use Rattle.mode.proofs.Seals.{seal_passes}
 use Rattle.tube.specs.Form.{Ranged, ReadsBack}
-use Rattle.tube.specs.Put.{fits, wrote, enclosed, Laid}
+use Rattle.tube.specs.Put.{fits, enclosed, Laid}
 use Rattle.tube.specs.Write.{size_of, nonce_of}
 use Rattle.tube.proofs.Laying.{laid_mid, enclosed_written, fits_from}
 use Rattle.tube.proofs.Numbers.{nonce_length, nonce_value}
@@ -20,9 +20,9 @@ use Rattle.sender.proofs.Sizes.{zeros, lent_length, part_length, put_length, num
 -- the seal inside a send is accepted: the place of the ciphertext and the tag part have the lengths wanted
 pub seal_accepted : (m : Meaning) (left : ℕ) (s : ParameterSet) (N A M out : List ℕ) (k at size work : ℕ) → Passes m left s k (length A) (length M) (length out)
     → length N ≡ s.nonce → work ≡ 64 → at ≡ 18 + length N + length A → size ≡ s.tag → size ≤ 16
-    → seal_verdict m left s N A M (length (take (at + length M - at) (drop at out))) (length (take (size - 0) zeros)) work ≡ sealed (m.sealing s N A M) (m.seal_runs (length A) (length M))
+    → seal_verdict m left s N A M (length (take (at + length M - at) (drop at out))) (length (take size zeros)) work ≡ sealed (m.sealing s N A M) (m.seal_runs (length A) (length M))
 seal_accepted m left s N A M out k at size work h n w e t l =
-    seal_passes m left s N A M (length (take (at + length M - at) (drop at out))) (length (take (size - 0) zeros)) work w
+    seal_passes m left s N A M (length (take (at + length M - at) (drop at out))) (length (take size zeros)) work w
     (record {
       codes = h.codes;
       widths = h.widths;
@@ -89,19 +89,6 @@ module _ (m : Meaning) (law : Lawful m) (left : ℕ) (s : ParameterSet) (N A M :
         ∙ enclosed_written s.code s.param N A C T out mid at here mid_length f laid
         ∙ cond-true (fits (length N) (length A) (length C) (length T) (length out)) _ _ f
         ∙ ap (λ x. sealed_tube m s N A M ++ drop x out) size_is
-
-    -- and what that answers
-    pub answered : (r : Option ℕ) (len : ℕ) → r ≡ wrote (length N) (length A) (length M) (length tag) (length mid) → r ≡ Some len → len ≡ tube_size s (length A) (length M)
-    answered r len e q =
-        let w : r ≡ Some (size_of (length N) (length A) (length C) (length T)) =
-        e ∙ ap (λ x. wrote (length N) (length A) (length M) (length x) (length mid)) t ∙ ap (λ x. wrote (length N) (length A) x (length T) (length mid)) (sym cipher_length)
-        ∙ ap (wrote (length N) (length A) (length C) (length T)) (mid_length ∙ sym same)
-        ∙ cond-true (fits (length N) (length A) (length C) (length T) room) _ _ fit in
-        let v : len ≡ size_of (length N) (length A) (length C) (length T) = same_some len (size_of (length N) (length A) (length C) (length T)) (sym q ∙ w) in
-        v ∙ size_is
-      where
-        same_some : (i j : ℕ) → ◌≡◌ {A = Option ℕ} (Some i) (Some j) → i ≡ j
-        same_some i j g = cc
 
 -- what was sent carries its label and contents under its number
 pub carries : (m : Meaning) → Lawful m → (left : ℕ) (s : ParameterSet) (k : ℕ) (A M : List ℕ) (room : ℕ) → Passes m left s k (length A) (length M) room → 1 ≤ k

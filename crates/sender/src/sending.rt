@@ -17,6 +17,7 @@ pub struct Sending {
 }
 
 impl Sending {
+    // Kept: the receiving end has this accessor too, in a crate that knows nothing of this one.
     pub fn set(&self) -> ParameterSet
         ensures { result ≡ self.now.«set» }
     {

@@ -2,6 +2,5 @@
 
 #![tactic(auto)]
 
-mod counts;
 pub mod silc;
 mod subroutines;

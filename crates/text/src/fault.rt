@@ -1,48 +1,28 @@
 // Why a text can't be read.
-use std::alloc::{AllocError, AllocFailed};
-use std::error::Error;
-use std::fmt;
+use hex::FromHexError;
+use std::alloc::AllocError;
+use thiserror::Error;
 
-#[derive(Clone, Copy, PartialEq, Eq, Debug)]
+#[derive(Clone, Copy, PartialEq, Eq, Debug, Error)]
 pub enum TextFault {
-    // no memory
-    Memory,
-    // an odd number of hexadecimal digits
+    #[error("there is no memory left")]
+    Memory(#[from(alloc)] AllocError),
+    #[error("an odd number of hexadecimal digits: each byte takes two")]
     OddLength,
-    // this byte is no hexadecimal digit
-    NoDigit(u8),
+    // the character of this byte is no hexadecimal digit
+    #[error("the byte {byte} is no hexadecimal digit", byte = u32::from(*.0))]
+    NoDigit(char),
     // a number that does not fit 64 bits, or has no digit
+    #[error("not a number of at most sixteen hexadecimal digits")]
     NoNumber,
 }
 
-impl From<AllocError> for TextFault {
-    fn from(_e: AllocError) -> TextFault {
-        TextFault::Memory
-    }
-}
-
-impl<T: Drop> From<AllocFailed<T>> for TextFault {
-    fn from(_e: AllocFailed<T>) -> TextFault {
-        TextFault::Memory
-    }
-}
-
-impl fmt::Display for TextFault {
-    fn fmt<W: fmt::Write>(&self, f: &mut fmt::Formatter<W>) -> fmt::Result {
-        match self {
-            TextFault::Memory => f.write_str("there is no memory left"),
-            TextFault::OddLength => f.write_str(
-                "an odd number of hexadecimal digits: each byte takes two",
-            ),
-            TextFault::NoDigit(b) => {
-                let byte = *b;
-                write!(f, "the byte {byte} is no hexadecimal digit")
-            }
-            TextFault::NoNumber => f.write_str(
-                "not a number of at most sixteen hexadecimal digits",
-            ),
+impl From<FromHexError> for TextFault {
+    fn from(error: FromHexError) -> TextFault {
+        match error {
+            FromHexError::InvalidHexCharacter { c, index: _ } => TextFault::NoDigit(c),
+            FromHexError::OddLength | FromHexError::InvalidStringLength => TextFault::OddLength,
+            FromHexError::OutOfMemory => TextFault::Memory(AllocError),
         }
     }
 }
-
-impl Error for TextFault {}

@@ -3,6 +3,6 @@
 #![tactic(auto)]
 
 pub mod ascii;
+pub mod digits;
 pub mod fault;
 pub mod fields;
-pub mod hex;

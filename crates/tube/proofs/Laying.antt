@@ -84,9 +84,9 @@ module _ (code param : ℕ) (n a : List ℕ) (m : ℕ) (t before : List ℕ) whe
   head_length : length head ≡ place
   head_length = omega (arith, length-append n (sectioned a), length-append (n ++ sectioned a) (four m))
 
-  pub around : (mid after : List ℕ) → fits (length n) (length a) m (length t) (length before) ≡ true
-      → Laid 0 head before mid → Laid (place + m) (sectioned t) mid after → after ≡ enclosed code param n a m t before
-  around mid after f first second =
+  pub around : (mid after : List ℕ) (at : ℕ) → at ≡ place → fits (length n) (length a) m (length t) (length before) ≡ true
+      → Laid 0 head before mid → Laid (at + m) (sectioned t) mid after → after ≡ enclosed code param n a m t before
+  around mid after at here f first second =
       let w = fits_since (length n) (length a) m (length t) (length before) f in
       let lb : length body ≡ m = length_part before (record { at = place; len = m }) (omega (arith, w.1)) in
       let lh : length (head ++ body) ≡ place + m = omega (arith, length-append head body, head_length, lb) in
@@ -96,7 +96,7 @@ module _ (code param : ℕ) (n a : List ℕ) (m : ℕ) (t before : List ℕ) whe
       ∙ ap (λ x. body ++ x) (drop-drop m place before ∙ ap (λ k. drop k before) (sym lh)) in
       let e3 : mid ≡ (head ++ body) ++ drop (length (head ++ body)) before =
       e1 ∙ ap (λ x. head ++ x) e2 ∙ sym (append_assoc head body (drop (length (head ++ body)) before)) in
-      let e4 : after ≡ ((head ++ body) ++ sectioned t) ++ drop (length ((head ++ body) ++ sectioned t)) before = second (head ++ body) before e3 (sym lh) in
+      let e4 : after ≡ ((head ++ body) ++ sectioned t) ++ drop (length ((head ++ body) ++ sectioned t)) before = second (head ++ body) before e3 (omega (arith, here, lh)) in
       let e5 : (head ++ body) ++ sectioned t ≡ tube_of code param n a body t = in_row (sectioned (code ∷ param ∷ [])) (sectioned n) (sectioned a) (four m) body (sectioned t) (ap four (sym lb)) in
       let e6 : length (tube_of code param n a body t) ≡ size_of (length n) (length a) m (length t) = tube_length code param n a body t ∙ ap (λ k. size_of (length n) (length a) k (length t)) lb in
       e4 ∙ ap (λ x. x ++ drop (length x) before) e5 ∙ ap (λ k. tube_of code param n a body t ++ drop k before) e6

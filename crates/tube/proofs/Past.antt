@@ -2,6 +2,8 @@
 use Rattle.std.proofs.Common.{◌≡◌, ℕ, ◌+◌, ◌≤◌, Bool, true, false, cond, not, ◌&&◌, eqb, leb, List, [], ◌∷◌, length, get_or, IfOk, Ok, Err, Result, sym, refl, ◌∙◌, subst, arith}
 use Rattle.std.proofs.lemmas.Bool.{leb-true, eqb-true}
 use Rattle.refusal.specs.Cause.{first, unless}
+use Rattle.tube.specs.declared.fault.Section.{Section}
+use Rattle.tube.specs.declared.fault.Section.TheVariants.{Set, Number, Label, Contents, Tag, Beyond}
 use Rattle.tube.specs.declared.fault.TubeFault.{TubeFault}
 use Rattle.tube.specs.declared.fault.TubeFault.TheVariants.{Form}
 use Rattle.tube.specs.declared.span.Span.{Span}
@@ -38,11 +40,11 @@ pub record Found (bytes : List ℕ) (place low high : ℕ) (s : Span) : Type 0 w
   pub least : low ≤ s.len
   pub most : s.len ≤ high
 
-pub section_found : (bytes : List ℕ) (place number low high : ℕ) (s : Span) → section bytes place number low high ≡ Ok s → Found bytes place low high s
-section_found bytes place number low high s q =
+pub section_found : (bytes : List ℕ) (place : ℕ) (which : Section) (low high : ℕ) (s : Span) → section bytes place which low high ≡ Ok s → Found bytes place low high s
+section_found bytes place which low high s q =
     let n = count_at bytes place in
     let q0 = sym (by_tests (leb (place + 4) (length bytes)) (leb low n) (leb n high) (leb (place + 4 + n) (length bytes))
-    (Form number place) (Form number place) (Form number (place + 4)) (record { at = place + 4; len = n })) ∙ q in
+    (Form which place) (Form which place) (Form which (place + 4)) (record { at = place + 4; len = n })) ∙ q in
     let q1 = past_check (leb (place + 4) (length bytes)) _ _ s q0 in
     let q2 = past_check (leb low n) _ _ s q1.1 in
     let q3 = past_check (leb n high) _ _ s q2.1 in
@@ -69,19 +71,19 @@ pub record Five (bytes : List ℕ) (t : Tube) : Type 0 where
   pub param : t.param ≡ get_or bytes (start.at + 1) 0
   pub number : t.number ≡ value (part bytes t.nonce)
 
-five_from : (bytes : List ℕ) (t : Tube) (s1 s2 s3 s4 s5 : Span) → section bytes 0 1 2 2 ≡ Ok s1 → section bytes (s1.at + s1.len) 2 1 16 ≡ Ok s2
-    → section bytes (s2.at + s2.len) 3 0 4096 ≡ Ok s3 → section bytes (s3.at + s3.len) 4 0 1048576 ≡ Ok s4 → section bytes (s4.at + s4.len) 5 1 16 ≡ Ok s5
-    → cond (eqb (s5.at + s5.len) (length bytes)) (Ok (told_by bytes s1 s2 s3 s4 s5)) (Err (Form 6 (s5.at + s5.len))) ≡ Ok t → Five bytes t
+five_from : (bytes : List ℕ) (t : Tube) (s1 s2 s3 s4 s5 : Span) → section bytes 0 Set 2 2 ≡ Ok s1 → section bytes (s1.at + s1.len) Number 1 16 ≡ Ok s2
+    → section bytes (s2.at + s2.len) Label 0 4096 ≡ Ok s3 → section bytes (s3.at + s3.len) Contents 0 1048576 ≡ Ok s4 → section bytes (s4.at + s4.len) Tag 1 16 ≡ Ok s5
+    → cond (eqb (s5.at + s5.len) (length bytes)) (Ok (told_by bytes s1 s2 s3 s4 s5)) (Err (Form Beyond (s5.at + s5.len))) ≡ Ok t → Five bytes t
 five_from bytes t s1 s2 s3 s4 s5 h1 h2 h3 h4 h5 q =
-    let e = past_check (eqb (s5.at + s5.len) (length bytes)) (Form 6 (s5.at + s5.len)) (Ok (told_by bytes s1 s2 s3 s4 s5)) t q in
+    let e = past_check (eqb (s5.at + s5.len) (length bytes)) (Form Beyond (s5.at + s5.len)) (Ok (told_by bytes s1 s2 s3 s4 s5)) t q in
     let P : Tube → Type 0 = λ u. Five bytes u in
     subst P (same_ok (told_by bytes s1 s2 s3 s4 s5) t e.1) (record {
       start = s1;
-      one = section_found bytes 0 1 2 2 s1 h1;
-      two = section_found bytes (s1.at + s1.len) 2 1 16 s2 h2;
-      three = section_found bytes (s2.at + s2.len) 3 0 4096 s3 h3;
-      four = section_found bytes (s3.at + s3.len) 4 0 1048576 s4 h4;
-      five = section_found bytes (s4.at + s4.len) 5 1 16 s5 h5;
+      one = section_found bytes 0 Set 2 2 s1 h1;
+      two = section_found bytes (s1.at + s1.len) Number 1 16 s2 h2;
+      three = section_found bytes (s2.at + s2.len) Label 0 4096 s3 h3;
+      four = section_found bytes (s3.at + s3.len) Contents 0 1048576 s4 h4;
+      five = section_found bytes (s4.at + s4.len) Tag 1 16 s5 h5;
       end = eqb-true (s5.at + s5.len) (length bytes) e.0;
       code = refl;
       param = refl;
@@ -90,11 +92,11 @@ five_from bytes t s1 s2 s3 s4 s5 h1 h2 h3 h4 h5 q =
 
 pub parsed_five : (bytes : List ℕ) (t : Tube) → parsed bytes ≡ Ok t → Five bytes t
 parsed_five bytes t q =
-    let b1 = past_bind (section bytes 0 1 2 2) _ t q in
-    let b2 = past_bind (section bytes (b1.0.at + b1.0.len) 2 1 16) _ t b1.2 in
-    let b3 = past_bind (section bytes (b2.0.at + b2.0.len) 3 0 4096) _ t b2.2 in
-    let b4 = past_bind (section bytes (b3.0.at + b3.0.len) 4 0 1048576) _ t b3.2 in
-    let b5 = past_bind (section bytes (b4.0.at + b4.0.len) 5 1 16) _ t b4.2 in
+    let b1 = past_bind (section bytes 0 Set 2 2) _ t q in
+    let b2 = past_bind (section bytes (b1.0.at + b1.0.len) Number 1 16) _ t b1.2 in
+    let b3 = past_bind (section bytes (b2.0.at + b2.0.len) Label 0 4096) _ t b2.2 in
+    let b4 = past_bind (section bytes (b3.0.at + b3.0.len) Contents 0 1048576) _ t b3.2 in
+    let b5 = past_bind (section bytes (b4.0.at + b4.0.len) Tag 1 16) _ t b4.2 in
     five_from bytes t b1.0 b2.0 b3.0 b4.0 b5.0 b1.1 b2.1 b3.1 b4.1 b5.1 b5.2
 
 pub parsed_within : (bytes : List ℕ) (t : Tube) → parsed bytes ≡ Ok t → Within t (length bytes)

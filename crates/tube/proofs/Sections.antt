@@ -3,6 +3,8 @@ use Rattle.std.proofs.Common.{◌≡◌, ℕ, ◌+◌, ◌/◌, ◌<◌, ◌≤�
 use lib.Seq.{take-append_seam, drop-append-add}
 use Rattle.std.proofs.lemmas.List.{get_or-append-add, append-nil}
 use Rattle.std.proofs.lemmas.Bool.{cond-true, le-leb, eq-eqb}
+use Rattle.tube.specs.declared.fault.Section.{Section}
+use Rattle.tube.specs.declared.fault.Section.TheVariants.{Set, Number, Label, Contents, Tag}
 use Rattle.tube.specs.declared.fault.TubeFault.{TubeFault}
 use Rattle.tube.specs.declared.fault.TubeFault.TheVariants.{Form}
 use Rattle.tube.specs.Part.{part}
@@ -24,15 +26,15 @@ module _ (pre xs rest : List ℕ) (fits : length xs < 4294967296) where
   total : length (pre ++ (sectioned xs ++ rest)) ≡ length pre + 4 + length xs + length rest
   total = length-append pre (sectioned xs ++ rest) ∙ omega (arith, length-append xs rest)
 
-  section_there : (number low high : ℕ) → low ≤ length xs → length xs ≤ high
-      → section (pre ++ (sectioned xs ++ rest)) (length pre) number low high ≡ Ok record { at = length pre + 4; len = length xs }
-  section_there number low high l h =
+  section_there : (which : Section) (low high : ℕ) → low ≤ length xs → length xs ≤ high
+      → section (pre ++ (sectioned xs ++ rest)) (length pre) which low high ≡ Ok record { at = length pre + 4; len = length xs }
+  section_there which low high l h =
       let B = pre ++ (sectioned xs ++ rest) in
       let p = length pre in
       let n = count_at B p in
       let c : n ≡ length xs = count_there in
       let t : length B ≡ p + 4 + length xs + length rest = total in
-      by_tests (leb (p + 4) (length B)) (leb low n) (leb n high) (leb (p + 4 + n) (length B)) (Form number p) (Form number p) (Form number (p + 4)) (record { at = p + 4; len = n })
+      by_tests (leb (p + 4) (length B)) (leb low n) (leb n high) (leb (p + 4 + n) (length B)) (Form which p) (Form which p) (Form which (p + 4)) (record { at = p + 4; len = n })
       ∙ cond-true (leb (p + 4) (length B)) _ _ (le-leb (p + 4) (length B) (omega arith))
       ∙ cond-true (leb low n) _ _ (le-leb low n (subst (λ k. low ≤ k) (sym c) l))
       ∙ cond-true (leb n high) _ _ (le-leb n high (subst (λ k. k ≤ high) (sym c) h))
@@ -43,10 +45,10 @@ module _ (pre xs rest : List ℕ) (fits : length xs < 4294967296) where
   part_there = ap (take (length xs)) (drop-append-add pre (sectioned xs ++ rest) 4) ∙ take-append_seam xs rest
 
   module _ (bytes : List ℕ) (place at : ℕ) (is : bytes ≡ pre ++ (sectioned xs ++ rest)) (here : place ≡ length pre) (after : at ≡ place + 4) where
-    pub section_in : (number low high : ℕ) → low ≤ length xs → length xs ≤ high → section bytes place number low high ≡ Ok record { at = at; len = length xs }
-    section_in number low high l h =
-        ap (λ b. section b place number low high) is ∙ ap (λ p. section (pre ++ (sectioned xs ++ rest)) p number low high) here
-        ∙ section_there number low high l h ∙ ap (λ p. Ok record { at = p; len = length xs }) (omega arith)
+    pub section_in : (which : Section) (low high : ℕ) → low ≤ length xs → length xs ≤ high → section bytes place which low high ≡ Ok record { at = at; len = length xs }
+    section_in which low high l h =
+        ap (λ b. section b place which low high) is ∙ ap (λ p. section (pre ++ (sectioned xs ++ rest)) p which low high) here
+        ∙ section_there which low high l h ∙ ap (λ p. Ok record { at = p; len = length xs }) (omega arith)
 
     pub part_in : part bytes (record { at = at; len = length xs }) ≡ xs
     part_in = ap (λ b. take (length xs) (drop at b)) is ∙ ap (λ p. take (length xs) (drop p (pre ++ (sectioned xs ++ rest)))) (omega arith) ∙ part_there
@@ -121,11 +123,11 @@ module _ (code param : ℕ) (n a c t : List ℕ) where
         let nonce : part W (record { at = 10; len = length n }) ≡ n = part_in front2 n R2 fn W 6 10 refl refl refl in
         record {
           reads =
-              bind_ok (section W 0 1 2 2) _ _ (section_in [] u R1 (omega arith) W 0 4 refl refl refl 1 2 2 (omega arith) (omega arith))
-              ∙ bind_ok (section W 6 2 1 16) _ _ (section_in front2 n R2 fn W 6 10 refl refl refl 2 1 16 r.nonces.0 r.nonces.1)
-              ∙ bind_ok (section W p3 3 0 4096) _ _ (section_in front3 a (sectioned c ++ sectioned t) fa W p3 (14 + length n) split3 here3 (omega arith) 3 0 4096 (omega arith) r.labels)
-              ∙ bind_ok (section W p4 4 0 1048576) _ _ (section_in front4 c (sectioned t) fc W p4 (18 + length n + length a) split4 here4 (omega arith) 4 0 1048576 (omega arith) r.bodies)
-              ∙ bind_ok (section W p5 5 1 16) _ _ (section_in front5 t [] ft W p5 (22 + length n + length a + length c) split5 here5 (omega arith) 5 1 16 r.tags.0 r.tags.1)
+              bind_ok (section W 0 Set 2 2) _ _ (section_in [] u R1 (omega arith) W 0 4 refl refl refl Set 2 2 (omega arith) (omega arith))
+              ∙ bind_ok (section W 6 Number 1 16) _ _ (section_in front2 n R2 fn W 6 10 refl refl refl Number 1 16 r.nonces.0 r.nonces.1)
+              ∙ bind_ok (section W p3 Label 0 4096) _ _ (section_in front3 a (sectioned c ++ sectioned t) fa W p3 (14 + length n) split3 here3 (omega arith) Label 0 4096 (omega arith) r.labels)
+              ∙ bind_ok (section W p4 Contents 0 1048576) _ _ (section_in front4 c (sectioned t) fc W p4 (18 + length n + length a) split4 here4 (omega arith) Contents 0 1048576 (omega arith) r.bodies)
+              ∙ bind_ok (section W p5 Tag 1 16) _ _ (section_in front5 t [] ft W p5 (22 + length n + length a + length c) split5 here5 (omega arith) Tag 1 16 r.tags.0 r.tags.1)
               ∙ cond-true (eqb (22 + length n + length a + length c + length t) (length W)) _ _ (eq-eqb (22 + length n + length a + length c + length t) (length W) end)
               ∙ ap (λ x. Ok record {
                 code = code;

@@ -1,6 +1,8 @@
 -- Reading a tube: its five sections in order, then nothing more. The first wrong form is told by section and place.
 use Rattle.std.specs.Prelude.{ℕ, ◌+◌, ◌*◌, ◌≤◌, cond, not, ◌&&◌, List, [], ◌∷◌, length, Ok, Err, fold, Result, ◌==◌, nat_le, slice_index}
 use Rattle.refusal.specs.Cause.{Cause, first, unless}
+use Rattle.tube.specs.declared.fault.Section.{Section}
+use Rattle.tube.specs.declared.fault.Section.TheVariants.{Set, Number, Label, Contents, Tag, Beyond}
 use Rattle.tube.specs.declared.fault.TubeFault.{TubeFault}
 use Rattle.tube.specs.declared.fault.TubeFault.TheVariants.{Form}
 use Rattle.tube.specs.declared.span.Span.{Span}
@@ -16,17 +18,17 @@ abbrev pub value : List ℕ → ℕ
 value bytes = fold (λ a x. a * 256 + x) 0 bytes
 
 -- what can be wrong with a section at a place, in order: no whole count, a count out of its range, fewer bytes than it says
-abbrev pub causes : List ℕ → ℕ → ℕ → ℕ → ℕ → List (Cause TubeFault)
-causes bytes place number low high =
-    record { applies = not (nat_le (place + 4) (length bytes)); names = Form number place }
-    ∷ record { applies = not (nat_le low (count_at bytes place) && nat_le (count_at bytes place) high); names = Form number place }
-    ∷ record { applies = not (nat_le (place + 4 + count_at bytes place) (length bytes)); names = Form number (place + 4) }
+abbrev pub causes : List ℕ → ℕ → Section → ℕ → ℕ → List (Cause TubeFault)
+causes bytes place which low high =
+    record { applies = not (nat_le (place + 4) (length bytes)); names = Form which place }
+    ∷ record { applies = not (nat_le low (count_at bytes place) && nat_le (count_at bytes place) high); names = Form which place }
+    ∷ record { applies = not (nat_le (place + 4 + count_at bytes place) (length bytes)); names = Form which (place + 4) }
     ∷ []
 
 -- where the bytes of a section stand that begins at a place
-abbrev pub section : List ℕ → ℕ → ℕ → ℕ → ℕ → Result Span TubeFault
-section bytes place number low high =
-    unless (first (causes bytes place number low high)) Err (Ok record { at = place + 4; len = count_at bytes place })
+abbrev pub section : List ℕ → ℕ → Section → ℕ → ℕ → Result Span TubeFault
+section bytes place which low high =
+    unless (first (causes bytes place which low high)) Err (Ok record { at = place + 4; len = count_at bytes place })
 
 abbrev pub bind : {A B : Type 0} → Result A TubeFault → (A → Result B TubeFault) → Result B TubeFault
 bind (Ok x) f = f x
@@ -47,14 +49,14 @@ told_by bytes s n a c t = record {
 -- five sections one after another, each with the range of its count, and nothing after
 abbrev pub parsed : List ℕ → Result Tube TubeFault
 parsed bytes =
-    bind (section bytes 0 1 2 2) (λ s.
-    bind (section bytes (s.at + s.len) 2 1 16) (λ n.
-    bind (section bytes (n.at + n.len) 3 0 4096) (λ a.
-    bind (section bytes (a.at + a.len) 4 0 1048576) (λ c.
-    bind (section bytes (c.at + c.len) 5 1 16) (λ t.
+    bind (section bytes 0 Set 2 2) (λ s.
+    bind (section bytes (s.at + s.len) Number 1 16) (λ n.
+    bind (section bytes (n.at + n.len) Label 0 4096) (λ a.
+    bind (section bytes (a.at + a.len) Contents 0 1048576) (λ c.
+    bind (section bytes (c.at + c.len) Tag 1 16) (λ t.
     cond (t.at + t.len == length bytes)
     (Ok (told_by bytes s n a c t))
-    (Err (Form 6 (t.at + t.len))))))))
+    (Err (Form Beyond (t.at + t.len))))))))
 
 -- the sections lie in so many bytes, each within its range
 pub record Within (t : Tube) (size : ℕ) : Type 0 where

@@ -1,6 +1,7 @@
 -- Worked values: a tube with n = 6, t = 4, a = 2, m = 3 has 37 bytes. Without its last byte it is refused at section 5, place 33; with one
 -- byte more at section 6, place 37.
 use Rattle.std.specs.Prelude.{◌≡◌, ℕ, List, [], ◌∷◌, ◌++◌, length, take, Ok, Err, refl}
+use Rattle.tube.specs.declared.fault.Section.TheVariants.{Set, Number, Label, Tag, Beyond}
 use Rattle.tube.specs.declared.fault.TubeFault.TheVariants.{Form}
 use Rattle.tube.specs.Write.{nonce_of, tube_of, size_of}
 use Rattle.tube.specs.Read.{parsed}
@@ -34,22 +35,22 @@ pub example_reads : parsed example ≡ Ok record {
 }
 example_reads = refl
 
-pub one_short : parsed (take 36 example) ≡ Err (Form 5 33)
+pub one_short : parsed (take 36 example) ≡ Err (Form Tag 33)
 one_short = refl
 
-pub one_more : parsed (example ++ (0 ∷ [])) ≡ Err (Form 6 37)
+pub one_more : parsed (example ++ (0 ∷ [])) ≡ Err (Form Beyond 37)
 one_more = refl
 
 -- a count that is cut short, one out of its range, and one with too few bytes after it
-pub no_count : parsed (0 ∷ 0 ∷ 0 ∷ []) ≡ Err (Form 1 0)
+pub no_count : parsed (0 ∷ 0 ∷ 0 ∷ []) ≡ Err (Form Set 0)
 no_count = refl
 
-pub no_nonce : parsed (0 ∷ 0 ∷ 0 ∷ 2 ∷ 1 ∷ 1 ∷ 0 ∷ 0 ∷ 0 ∷ 0 ∷ []) ≡ Err (Form 2 6)
+pub no_nonce : parsed (0 ∷ 0 ∷ 0 ∷ 2 ∷ 1 ∷ 1 ∷ 0 ∷ 0 ∷ 0 ∷ 0 ∷ []) ≡ Err (Form Number 6)
 no_nonce = refl
 
-pub short_nonce : parsed (0 ∷ 0 ∷ 0 ∷ 2 ∷ 1 ∷ 1 ∷ 0 ∷ 0 ∷ 0 ∷ 2 ∷ 7 ∷ []) ≡ Err (Form 2 10)
+pub short_nonce : parsed (0 ∷ 0 ∷ 0 ∷ 2 ∷ 1 ∷ 1 ∷ 0 ∷ 0 ∷ 0 ∷ 2 ∷ 7 ∷ []) ≡ Err (Form Number 10)
 short_nonce = refl
 
 -- a count of the label one above its limit is told before its missing bytes
-pub long_label : parsed (0 ∷ 0 ∷ 0 ∷ 2 ∷ 1 ∷ 1 ∷ 0 ∷ 0 ∷ 0 ∷ 1 ∷ 7 ∷ 0 ∷ 0 ∷ 16 ∷ 1 ∷ []) ≡ Err (Form 3 11)
+pub long_label : parsed (0 ∷ 0 ∷ 0 ∷ 2 ∷ 1 ∷ 1 ∷ 0 ∷ 0 ∷ 0 ∷ 1 ∷ 7 ∷ 0 ∷ 0 ∷ 16 ∷ 1 ∷ []) ≡ Err (Form Label 11)
 long_label = refl

@@ -1,11 +1,11 @@
 // Reading a tube.
 ghost use Rattle.std.specs.Prelude.{◌≡◌, ℕ, ◌+◌, ◌≤◌, length, IfOk, Ok};
 ghost use Rattle.tube.specs.declared.tube.Tube.{Tube as Told};
-ghost use Rattle.tube.specs.Read.{count_at, section, value, parsed, Within};
+ghost use Rattle.tube.specs.Read.{section, value, parsed, Within};
+ghost use Rattle.tube.specs.Fault.{least, most};
 ghost use Rattle.tube.specs.Form.{Iff, Reads, Rewritten};
 
-use crate::fault::TubeFault;
-use crate::limits::{MAX_CONTENTS, MAX_LABEL, MAX_NONCE, MAX_TAG};
+use crate::fault::{Section, TubeFault};
 use crate::span::Span;
 use crate::tube::Tube;
 
@@ -19,17 +19,18 @@ pub fn read(bytes: &[u8]) -> Result<Tube, TubeFault>
     parse(bytes)
 }
 
+// Kept: a function of its own, since as one with `read` each of the three laws is a goal at each of its seven ends.
 fn parse(bytes: &[u8]) -> Result<Tube, TubeFault>
     ensures { result ≡ parsed bytes.now }
 {
-    let set = span(bytes, 0, 1, 2, 2)?;
-    let nonce = span(bytes, set.at + set.len, 2, 1, MAX_NONCE)?;
-    let label = span(bytes, nonce.at + nonce.len, 3, 0, MAX_LABEL)?;
-    let contents = span(bytes, label.at + label.len, 4, 0, MAX_CONTENTS)?;
-    let tag = span(bytes, contents.at + contents.len, 5, 1, MAX_TAG)?;
-    let end = tag.at + tag.len;
-    if end != bytes.len() {
-        return Err(TubeFault::Form(6, end));
+    let mut reader = Reader { bytes, place: 0 };
+    let set = reader.section(Section::Set)?;
+    let nonce = reader.section(Section::Number)?;
+    let label = reader.section(Section::Label)?;
+    let contents = reader.section(Section::Contents)?;
+    let tag = reader.section(Section::Tag)?;
+    if reader.place != bytes.len() {
+        return Err(TubeFault::Form(Section::Beyond, reader.place));
     }
     let number = number(nonce.part(bytes));
     Ok(Tube {
@@ -43,35 +44,42 @@ fn parse(bytes: &[u8]) -> Result<Tube, TubeFault>
     })
 }
 
-// One section: its count whole and within its range, and then its bytes.
-fn span(bytes: &[u8], place: usize, number: u8, low: usize, high: usize) -> Result<Span, TubeFault>
-    requires { place ≤ length bytes.now }
-    ensures answer { result ≡ section bytes.now place number low high }
-    ensures within { IfOk result (λ s. (s.at + s.len ≤ length bytes.now) × (low ≤ s.len) × (s.len ≤ high)) }
-{
-    if bytes.len() - place < 4 {
-        return Err(TubeFault::Form(number, place));
-    }
-    let len = count(bytes, place);
-    if len < low || len > high {
-        return Err(TubeFault::Form(number, place));
-    }
-    if bytes.len() - place - 4 < len {
-        return Err(TubeFault::Form(number, place + 4));
-    }
-    Ok(Span { at: place + 4, len })
+// A tube that is being read, and the place up to which it was read.
+#[derive(Drop)]
+struct Reader<'a> {
+    bytes: &'a [u8],
+    place: usize,
+    ghost within: { place ≤ length bytes.now },
 }
 
-// The count of four bytes at a place.
-fn count(bytes: &[u8], at: usize) -> usize
-    requires { at + 4 ≤ length bytes.now }
-    ensures { result ≡ count_at bytes.now at }
-{
-    ((bytes[at] as usize * 256 + bytes[at + 1] as usize) * 256 + bytes[at + 2] as usize) * 256
-        + bytes[at + 3] as usize
+impl Reader<'_> {
+    // The next section: its count whole and within its range, and then its bytes.
+    fn section(&mut self, which: Section) -> Result<Span, TubeFault>
+        ensures answer { result ≡ section self.old.bytes.now self.old.place which (least which) (most which) }
+        ensures next { IfOk result (λ s. self.new.place ≡ s.at + s.len) }
+        ensures same { self.new.bytes.now ≡ self.old.bytes.now }
+        ensures low { IfOk result (λ s. least which ≤ s.len) }
+        ensures high { IfOk result (λ s. s.len ≤ most which) }
+    {
+        let (_, rest) = self.bytes.split_at(self.place);
+        let Some((count, rest)) = rest.split_first_chunk::<4>() else {
+            return Err(TubeFault::Form(which, self.place));
+        };
+        let len = u32::from_be_bytes(*count) as usize;
+        if !which.allows(len) {
+            return Err(TubeFault::Form(which, self.place));
+        }
+        let at = self.place + 4;
+        if rest.len() < len {
+            return Err(TubeFault::Form(which, at));
+        }
+        self.place = at + len;
+        Ok(Span { at, len })
+    }
 }
 
 // The number in at most 16 bytes, the highest first.
+// Kept: u128::from_be_bytes would want the bytes copied behind zeros into 16 of its own first.
 fn number(bytes: &[u8]) -> u128
     requires { length bytes.now ≤ 16 }
     ensures { result ≡ value bytes.now }

@@ -3,7 +3,8 @@ use crate::span::Span;
 
 // The set's code and param, the number, and where the bytes of the other sections stand: the nonce, which is the number in bytes, the
 // label (associated data), the contents (the ciphertext) and the tag.
-#[derive(Clone, Copy)]
+// Kept: places, since the answer of an open says where the label stands in memory that its caller lent.
+#[derive(Clone, Copy, PartialEq, Eq, Debug)]
 pub struct Tube {
     pub code: u8,
     pub param: u8,

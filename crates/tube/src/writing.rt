@@ -5,8 +5,9 @@ ghost use Rattle.tube.specs.Put.{in_range, fits, wrote, written, enclosed, Laid}
 ghost use Rattle.tube.specs.Read.{value};
 ghost use Rattle.tube.specs.Form.{ReadsBack};
 
-use crate::limits::{MAX_CONTENTS, MAX_LABEL, MAX_NONCE, MAX_TAG};
+use crate::fault::Section;
 
+// Kept: the sections one by one, here and in `enclose`, since the ends have them in parts that are lent to them.
 // Writes a tube of five sections into the first bytes of `out` and answers its length. Where a section is out of its range or `out` too
 // short, it writes nothing and answers none. What is written reads back as these sections.
 pub fn write(
@@ -52,10 +53,8 @@ pub fn enclose(
     if !fits(nonce.len(), label.len(), size, tag.len(), out.len()) {
         return None;
     }
-    put_head(out, code, param, nonce, label, size);
-    let at = 18 + nonce.len() + label.len() + size;
-    put_section(out, at, tag);
-    Some(at + 4 + tag.len())
+    let at = put_head(out, code, param, nonce, label, size);
+    Some(put_section(out, at + size, tag))
 }
 
 // Writes the nonce of a number: the number in the bytes that there are, the highest first, zeros in front.
@@ -63,81 +62,75 @@ pub fn fill(number: u64, bytes: &mut [u8])
     ensures bytes { bytes.new ≡ nonce_of (length bytes.old) number }
     ensures back { number < 256 ^ length bytes.old → value bytes.new ≡ number }
 {
-    fill_down(number, bytes);
-}
-
-fn fill_down(number: u64, bytes: &mut [u8])
-    ensures { bytes.new ≡ nonce_of (length bytes.old) number }
-{
+    // Lowest first and then reversed: of what is written through iter_mut().rev() a proof knows the length alone.
+    // Kept: there may be more bytes than the eight of to_be_bytes, or fewer.
     let mut rest = number;
-    let mut i = bytes.len();
-    while i > 0 {
-        i -= 1;
-        bytes[i] = (rest % 256) as u8;
+    for byte in bytes.iter_mut() {
+        *byte = (rest % 256) as u8;
         rest /= 256;
     }
+    bytes.reverse();
 }
 
 fn in_range(nonce: usize, label: usize, contents: usize, tag: usize) -> bool
     ensures { result ≡ in_range nonce label contents tag }
 {
-    if nonce < 1 || nonce > MAX_NONCE {
-        return false;
-    }
-    if label > MAX_LABEL || contents > MAX_CONTENTS {
-        return false;
-    }
-    tag >= 1 && tag <= MAX_TAG
+    Section::Number.allows(nonce)
+        && Section::Label.allows(label)
+        && Section::Contents.allows(contents)
+        && Section::Tag.allows(tag)
 }
 
 // Whether the sections are in their ranges and the tube has room.
 fn fits(nonce: usize, label: usize, contents: usize, tag: usize, room: usize) -> bool
     ensures { result ≡ fits nonce label contents tag room }
 {
-    if !in_range(nonce, label, contents, tag) {
-        return false;
-    }
-    22 + nonce + tag + label + contents <= room
+    in_range(nonce, label, contents, tag) && 22 + nonce + tag + label + contents <= room
 }
 
-// The first three sections, and the count of the fourth.
-fn put_head(out: &mut [u8], code: u8, param: u8, nonce: &[u8], label: &[u8], size: usize)
-    requires { (18 + length nonce.now + length label.now ≤ length out.old) × (length nonce.now ≤ 16) × (length label.now ≤ 4096) × (size < 2 ^ 32) }
-    ensures { Laid 0 (((sectioned (code ∷ param ∷ []) ++ sectioned nonce.now) ++ sectioned label.now) ++ four size) out.old out.new }
+// The first three sections, and the count of the fourth. Like each put below it answers the place after what it wrote.
+fn put_head(out: &mut [u8], code: u8, param: u8, nonce: &[u8], label: &[u8], size: usize) -> usize
+    requires room { 18 + length nonce.now + length label.now ≤ length out.old }
+    requires nonces { length nonce.now ≤ 16 }
+    requires labels { length label.now ≤ 4096 }
+    requires sizes { size < 2 ^ 32 }
+    ensures next { result ≡ 18 + length nonce.now + length label.now }
+    ensures out { Laid 0 (((sectioned (code ∷ param ∷ []) ++ sectioned nonce.now) ++ sectioned label.now) ++ four size) out.old out.new }
 {
-    put_section(out, 0, &[code, param]);
-    put_section(out, 6, nonce);
-    put_section(out, 10 + nonce.len(), label);
-    put_count(out, 14 + nonce.len() + label.len(), size);
+    let at = put_section(out, 0, &[code, param]);
+    let at = put_section(out, at, nonce);
+    let at = put_section(out, at, label);
+    put_count(out, at, size)
 }
 
 // A section after its count.
-fn put_section(out: &mut [u8], at: usize, bytes: &[u8])
-    requires { (at + 4 + length bytes.now ≤ length out.old) × (length bytes.now < 2 ^ 32) }
-    ensures { Laid at (sectioned bytes.now) out.old out.new }
+fn put_section(out: &mut [u8], at: usize, bytes: &[u8]) -> usize
+    requires room { at + 4 + length bytes.now ≤ length out.old }
+    requires count { length bytes.now < 2 ^ 32 }
+    ensures next { result ≡ at + 4 + length bytes.now }
+    ensures out { Laid at (sectioned bytes.now) out.old out.new }
 {
-    put_count(out, at, bytes.len());
-    put(out, at + 4, bytes);
+    let at = put_count(out, at, bytes.len());
+    put(out, at, bytes)
 }
 
 // A count in four bytes, the highest first.
-fn put_count(out: &mut [u8], at: usize, n: usize)
-    requires { (at + 4 ≤ length out.old) × (n < 2 ^ 32) }
-    ensures { Laid at (four n) out.old out.new }
+fn put_count(out: &mut [u8], at: usize, n: usize) -> usize
+    requires room { at + 4 ≤ length out.old }
+    requires count { n < 2 ^ 32 }
+    ensures next { result ≡ at + 4 }
+    ensures out { Laid at (four n) out.old out.new }
 {
-    let count = [
-        (n / 16777216) as u8,
-        (n / 65536 % 256) as u8,
-        (n / 256 % 256) as u8,
-        (n % 256) as u8,
-    ];
-    put(out, at, &count);
+    put(out, at, &(n as u32).to_be_bytes())
 }
 
-fn put(out: &mut [u8], at: usize, bytes: &[u8])
+// Kept: a place in the part that the caller lent, as nothing is allocated.
+fn put(out: &mut [u8], at: usize, bytes: &[u8]) -> usize
     requires { at + length bytes.now ≤ length out.old }
-    ensures { Laid at bytes.now out.old out.new }
+    ensures next { result ≡ at + length bytes.now }
+    ensures out { Laid at bytes.now out.old out.new }
 {
     let end = at + bytes.len();
     out[at..end].copy_from_slice(bytes);
+    end
 }

@@ -1,10 +1,12 @@
 -- The key schedule as the code computes it.
-use Rattle.std.proofs.Common.{◌≡◌, ℕ, suc, ◌+◌, ◌*◌, ◌/◌, ◌%◌, ◌^◌, ◌<◌, List, [], ◌∷◌, length, get_or, sym, refl, ap, ◌∙◌, ap₂, add-one, arith}
+use Rattle.std.proofs.Common.{◌≡◌, ℕ, suc, ◌+◌, ◌/◌, ◌%◌, ◌<◌, List, [], ◌∷◌, map, length, get_or, sym, refl, ap, ◌∙◌, ap₂, add-one, arith}
+use Rattle.std.proofs.lemmas.List.{get_or-map, length-map}
+use Rattle.std.proofs.lemmas.List.FromFn.{length-map-range_with_len, get_or-map-range_with_len}
 use lib.Bits.{bit_xor, xor_lt}
-use Rattle.bits.proofs.Listed.{listed, AllBelow, below_at}
-use Rattle.twine.specs.Twine.{S, CON, round_key, update, WK, permuted, substituted, rounds}
-use Rattle.twine.specs.Split.{Nibbles, Holds}
-use Rattle.twine.proofs.States.{split_is}
+use Rattle.bits.specs.Nibbles.{nibbles}
+use Rattle.bits.proofs.Listed.{listed, below_at}
+use Rattle.twine.specs.Twine.{S, CON, update, WK, RK, permuted, substituted, rounds}
+use Rattle.twine.specs.Split.{Nibbles, round_keys}
 
 -- the register updated, with s and t what the S-box gives
 abbrev next : List ℕ → ℕ → ℕ → ℕ → List ℕ
@@ -26,18 +28,6 @@ update_small wk con s t h lc ls lt =
     below_at 16 (omega arith) (next wk con s t)
     (a, (h 5, (h 6, (b, (h 8, (h 9, (h 10, (h 11, (h 12, (h 13, (h 14, (h 15, (h 16, (h 17, (h 18, (d, (e, (h 2, (h 3, (h 0, tt))))))))))))))))))))
 
-pub round_key_is :
-    (wk : List ℕ) → Nibbles wk →
-    Holds (round_key wk)
-    (get_or wk 1 0 * 2 ^ 60 % 2 ^ 64 + get_or wk 3 0 * 2 ^ 52 % 2 ^ 64 + get_or wk 4 0 * 2 ^ 44 % 2 ^ 64 + get_or wk 6 0 * 2 ^ 36 % 2 ^ 64 + get_or wk 13 0 * 2 ^ 28 % 2 ^ 64
-    + get_or wk 14 0 * 2 ^ 20 % 2 ^ 64 + get_or wk 15 0 * 2 ^ 12 % 2 ^ 64 + get_or wk 16 0 * 2 ^ 4 % 2 ^ 64)
-round_key_is wk h =
-    let w : ℕ → ℕ = λ i. get_or wk i 0 in
-    let z : 0 < 16 = omega arith in
-    let ys : List ℕ = w 1 ∷ 0 ∷ w 3 ∷ 0 ∷ w 4 ∷ 0 ∷ w 6 ∷ 0 ∷ w 13 ∷ 0 ∷ w 14 ∷ 0 ∷ w 15 ∷ 0 ∷ w 16 ∷ 0 ∷ [] in
-    let small : AllBelow 16 ys = (h 1, (z, (h 3, (z, (h 4, (z, (h 6, (z, (h 13, (z, (h 14, (z, (h 15, (z, (h 16, (z, tt)))))))))))))))) in
-    split_is ys (below_at 16 z ys small) _ (omega arith)
-
 pub register_none : (K : List ℕ) → WK K 0 ≡ K
 unfolding WK
 register_none K = refl
@@ -53,3 +43,12 @@ rounds_none RK x = refl
 pub rounds_more : (RK : ℕ → List ℕ) (x : List ℕ) (i : ℕ) → rounds RK x (i + 1) ≡ permuted (substituted (RK (suc i)) (rounds RK x i))
 unfolding rounds
 rounds_more RK x i = ap (rounds RK x) (add-one i)
+
+-- the words of a round key, of keys that hold the round keys of `key`
+pub at_round :
+    {K : Type 0} (words : K → List ℕ) → (key : List ℕ) (keys : List K) → map words keys ≡ round_keys key → (i : ℕ) (d : K) → i < 36 → words (get_or keys i d) ≡ RK (nibbles key) (suc i)
+unfolding round_keys
+at_round words key keys e i d h =
+    let rk : ℕ → List ℕ = λ i. RK (nibbles key) (suc i) in
+    let l : length keys ≡ 36 = sym (length-map keys words) ∙ ap length e ∙ length-map-range_with_len rk 0 36 in
+    sym (get_or-map words keys i d [] (omega arith)) ∙ ap (λ ks. get_or ks i []) e ∙ get_or-map-range_with_len rk 0 36 i i [] h (omega arith)

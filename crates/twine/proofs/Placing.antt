@@ -1,11 +1,12 @@
 -- A round as the code computes it: sixteen nibbles, each at its place.
-use Rattle.std.proofs.Common.{◌≡◌, ℕ, ◌+◌, ◌*◌, ◌/◌, ◌%◌, ◌^◌, cond, eqb, List, length, get_or, replicate, sym, ap, ◌∙◌, subst, ap₂, arith, shr-shr}
+use Rattle.std.proofs.Common.{◌≡◌, ℕ, ◌-◌, ◌+◌, ◌*◌, ◌/◌, ◌%◌, ◌^◌, cond, eqb, List, get_or, replicate, sym, ap, ◌∙◌, subst, ap₂, arith, shr-shr}
 use lib.Bits.{bit_xor, xor_shr, xor_mod, xor_zero_r}
 use Rattle.bits.specs.Nibbles.{each}
-use Rattle.bits.proofs.Listed.{listed, AllBelow, below_at, eight_eq}
+use Rattle.bits.specs.Digits.{sum}
+use Rattle.bits.proofs.Listed.{below_at, eight_eq}
 use Rattle.twine.specs.Twine.{S, permuted, substituted}
-use Rattle.twine.specs.Split.{split, evens, odds, OddZero, mixed, Nibbles}
-use Rattle.twine.proofs.States.{each_below, split_is, split_small, octets}
+use Rattle.twine.specs.Split.{split, evens, odds, OddZero, key_words, mixed, Nibbles}
+use Rattle.twine.proofs.States.{each_below, split_small, octets}
 
 nibble_xor : (x y t : ℕ) → bit_xor x y / 2 ^ t % 16 ≡ bit_xor (x / 2 ^ t % 16) (y / 2 ^ t % 16)
 nibble_xor x y t = ap (λ v. v % 16) (xor_shr x y t) ∙ xor_mod (x / 2 ^ t) (y / 2 ^ t) 4
@@ -23,7 +24,7 @@ mixed_xor x key s z =
     (right ∙ nibble_xor x key s ∙ ap (bit_xor (x / 2 ^ s % 16)) z ∙ xor_zero_r (x / 2 ^ s % 16))
 
 pub sums_are :
-    (x key : ℕ) → OddZero key → (b : List ℕ) → b ≡ octets (bit_xor x key) → each 8 (λ j. mixed (get_or b j 0)) ≡ odds (substituted (evens (split key)) (split x))
+    (x key : ℕ) → OddZero key → (b : List ℕ) → b ≡ octets (bit_xor x key) → each 8 (λ j. mixed (get_or b j 0)) ≡ odds (substituted (key_words key) (split x))
 sums_are x key odd b e =
     let z : (j : ℕ) → get_or (odds (split key)) j 0 ≡ get_or (replicate 8 0) j 0 = λ j. ap (λ xs. get_or xs j 0) odd in
     let one : bit_xor x key % 256 ≡ bit_xor x key / 1 % 256 = omega arith in
@@ -41,25 +42,13 @@ kept_small x r e =
     let f : ℕ → ℕ = λ j. get_or (split x) (2 * j) 0 in
     subst Nibbles (sym e) (below_at 16 (omega arith) (each 8 f) (each_below 16 f (λ j. split_small x (2 * j)) 0 8))
 
-pub joined_is :
-    (n : List ℕ) → length n ≡ 16 → Nibbles n →
-    split
-    (get_or n 0 0 * 2 ^ 60 % 2 ^ 64 + get_or n 1 0 * 2 ^ 56 % 2 ^ 64 + get_or n 2 0 * 2 ^ 52 % 2 ^ 64 + get_or n 3 0 * 2 ^ 48 % 2 ^ 64 + get_or n 4 0 * 2 ^ 44 % 2 ^ 64
-    + get_or n 5 0 * 2 ^ 40 % 2 ^ 64 + get_or n 6 0 * 2 ^ 36 % 2 ^ 64 + get_or n 7 0 * 2 ^ 32 % 2 ^ 64 + get_or n 8 0 * 2 ^ 28 % 2 ^ 64 + get_or n 9 0 * 2 ^ 24 % 2 ^ 64
-    + get_or n 10 0 * 2 ^ 20 % 2 ^ 64 + get_or n 11 0 * 2 ^ 16 % 2 ^ 64 + get_or n 12 0 * 2 ^ 12 % 2 ^ 64 + get_or n 13 0 * 2 ^ 8 % 2 ^ 64 + get_or n 14 0 * 2 ^ 4 % 2 ^ 64
-    + get_or n 15 0)
-    ≡ n
-joined_is n e small =
-    let all : AllBelow 16 (each 16 (λ i. get_or n i 0)) = each_below 16 (λ i. get_or n i 0) small 0 16 in
-    split_is n small _ (omega arith) ∙ sym (listed 16 n e)
+-- what is left to add of the sum of the nibbles n, the last k of them
+abbrev pub rest : List ℕ → ℕ → ℕ
+rest n k = sum k (λ j. get_or n (15 - j) 0 * 16 ^ j)
 
 -- the state before the shuffle, of the nibbles at the even places and those at the odd ones
 abbrev pub woven : List ℕ → List ℕ → List ℕ
 woven h m = each 16 (λ i. cond (eqb (i % 2) 0) (get_or h (i / 2) 0) (get_or m (i / 2) 0))
-
-pub woven_is :
-    (x key : ℕ) (h m : List ℕ) → h ≡ evens (split x) → m ≡ odds (substituted (evens (split key)) (split x)) → woven h m ≡ substituted (evens (split key)) (split x)
-woven_is x key h m eh em = ap₂ woven eh em
 
 module _ (h m : List ℕ) (H : Nibbles h) (M : Nibbles m) where
   pub woven_small : Nibbles (woven h m)

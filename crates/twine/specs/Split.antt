@@ -1,5 +1,6 @@
 -- The words that the code keeps: a state in 64 bits, its nibble X_0 leftmost, and a round key at the even places of 64 bits.
-use Rattle.std.specs.Prelude.{◌≡◌, ℕ, suc, ◌+◌, ◌-◌, ◌*◌, ◌/◌, ◌%◌, ◌<◌, cond, List, replicate, ◌==◌, bit_xor, slice_index}
+use Rattle.std.specs.Prelude.{◌≡◌, ℕ, suc, ◌+◌, ◌-◌, ◌*◌, ◌/◌, ◌%◌, ◌<◌, List, map, replicate, bit_xor, slice_index}
+use Rattle.std.specs.List.{range_with_len}
 use Rattle.bits.specs.Digits.{word}
 use Rattle.bits.specs.Nibbles.{each, nibbles}
 use Rattle.twine.specs.Twine.{S, RK}
@@ -19,13 +20,13 @@ odds x = each 8 (λ j. slice_index x (2 * j + 1))
 abbrev pub OddZero : ℕ → Type 0
 OddZero k = odds (split k) ≡ replicate 8 0
 
--- a round key in 64 bits: each of its nibbles is followed by a zero
-abbrev pub Holds : List ℕ → ℕ → Type 0
-Holds rk k = split k ≡ each 16 (λ i. cond (i % 2 == 0) (slice_index rk (i / 2)) 0)
+-- the words of a round key in 64 bits, each of them followed by a zero
+abbrev pub key_words : ℕ → List ℕ
+key_words k = evens (split k)
 
--- the 36 round keys of a key, that of round i + 1 at place i
-abbrev pub Scheduled : List ℕ → List ℕ → Type 0
-Scheduled key keys = (i : ℕ) → i < 36 → Holds (RK (nibbles key) (suc i)) (slice_index keys i)
+-- the 36 round keys of a key, that of round 1 first
+unfoldable pub round_keys : List ℕ → List (List ℕ)
+round_keys key = map (λ i. RK (nibbles key) (suc i)) (range_with_len 0 36)
 
 -- S of the left nibble of a byte, added to the right one
 unfoldable pub mixed : ℕ → ℕ

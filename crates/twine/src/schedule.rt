@@ -1,117 +1,88 @@
-// The key schedule of TWINE-80, on a register of twenty nibbles.
-ghost use Rattle.std.specs.Prelude.{◌≡◌, suc, ◌<◌};
+// The key schedule of TWINE-80, on a register of twenty words of 4 bits. It is the same whichever way a crate computes S and keeps a
+// round key.
+ghost use Rattle.std.specs.Prelude.{◌≡◌, ℕ, ◌<◌, List, map};
 ghost use Rattle.bits.specs.Nibbles.{nibbles};
-ghost use Rattle.twine.specs.Twine.{S, CON, round_key, update};
-ghost use Rattle.twine.specs.Split.{Nibbles, Holds, Scheduled};
+ghost use Rattle.twine.specs.Twine.{S, round_key, update, twine80};
+ghost use Rattle.twine.specs.Split.{round_keys};
 
-fn substitute(x: u8) -> u8
-    requires { x < 16 }
-    ensures is { result ≡ S x }
-    ensures small { result < 16 }
-{
-    SBOX[x as usize]
+use crate::words::{Word, Words};
+use std::array;
+
+// A round key as a cipher keeps it, the S-box by which its key schedule runs, and the rounds on a block.
+pub trait RoundKey: Copy {
+    // RK_0 to RK_7
+    ghost words: { Self → List ℕ };
+
+    fn substitute(word: Word) -> Word
+        ensures { result.value ≡ S word.value };
+
+    fn of_register(register: &Words<20>) -> Self
+        ensures { words result ≡ round_key register.now.values };
+
+    // A block under the keys of rounds 1 to 36.
+    fn encrypt(keys: &[Self; 36], block: &[u8; 8]) -> [u8; 8]
+        ensures { (key : List ℕ) → map words keys.now ≡ round_keys key → result ≡ twine80 key block.now };
 }
 
-// The constant of round r + 1.
-fn constant(r: usize) -> u8
-    requires { r < 35 }
-    ensures is { result ≡ CON (suc r) }
-    ensures small { result < 64 }
+// The key's words, with which the register starts.
+fn register(key: &[u8; 10]) -> Words<20>
+    ensures { result.values ≡ nibbles key.now }
 {
-    CONSTANTS[r]
-}
-
-// The key's nibbles, with which the register starts.
-fn register(key: &[u8; 10]) -> [u8; 20]
-    ensures is { result ≡ nibbles key.now }
-    ensures small { Nibbles result }
-{
-    [
-        key[0] / 16,
-        key[0] % 16,
-        key[1] / 16,
-        key[1] % 16,
-        key[2] / 16,
-        key[2] % 16,
-        key[3] / 16,
-        key[3] % 16,
-        key[4] / 16,
-        key[4] % 16,
-        key[5] / 16,
-        key[5] % 16,
-        key[6] / 16,
-        key[6] % 16,
-        key[7] / 16,
-        key[7] % 16,
-        key[8] / 16,
-        key[8] % 16,
-        key[9] / 16,
-        key[9] % 16,
-    ]
-}
-
-// The round key at the even places of a word, where `round` adds it.
-fn round_key(wk: &[u8; 20]) -> u64
-    requires { Nibbles wk.now }
-    ensures { Holds (round_key wk.now) result }
-{
-    ((wk[1] as u64) << 60)
-        + ((wk[3] as u64) << 52)
-        + ((wk[4] as u64) << 44)
-        + ((wk[6] as u64) << 36)
-        + ((wk[13] as u64) << 28)
-        + ((wk[14] as u64) << 20)
-        + ((wk[15] as u64) << 12)
-        + ((wk[16] as u64) << 4)
+    Words {
+        values: array::from_fn(|i| {
+            let byte = key[i / 2];
+            if i % 2 == 0 { byte / 16 } else { byte % 16 }
+        }),
+    }
 }
 
 // The register after a round with this constant.
-fn updated(wk: &[u8; 20], con: u8) -> [u8; 20]
-    requires { (Nibbles wk.now) × (con < 64) }
-    ensures is { result ≡ update con wk.now }
-    ensures small { Nibbles result }
+// Kept: with rotate_left in place of the twenty entries the goals rotate_left-requires and returns stay open.
+fn updated<K: RoundKey>(register: &Words<20>, constant: u8) -> Words<20>
+    requires { constant < 64 }
+    ensures { result.values ≡ update constant register.now.values }
 {
-    [
-        wk[4] ^ substitute(wk[16]),
-        wk[5],
-        wk[6],
-        wk[7] ^ (con / 8),
-        wk[8],
-        wk[9],
-        wk[10],
-        wk[11],
-        wk[12],
-        wk[13],
-        wk[14],
-        wk[15],
-        wk[16],
-        wk[17],
-        wk[18],
-        wk[19] ^ (con % 8),
-        wk[1] ^ substitute(wk[0]),
-        wk[2],
-        wk[3],
-        wk[0],
-    ]
+    let wk = &register.values;
+    let s = K::substitute(Word { value: wk[16] });
+    let t = K::substitute(Word { value: wk[0] });
+    Words {
+        values: [
+            wk[4] ^ s.value,
+            wk[5],
+            wk[6],
+            wk[7] ^ (constant / 8),
+            wk[8],
+            wk[9],
+            wk[10],
+            wk[11],
+            wk[12],
+            wk[13],
+            wk[14],
+            wk[15],
+            wk[16],
+            wk[17],
+            wk[18],
+            wk[19] ^ (constant % 8),
+            wk[1] ^ t.value,
+            wk[2],
+            wk[3],
+            wk[0],
+        ],
+    }
 }
 
 // The round keys of rounds 1 to 36.
-pub(crate) fn schedule(key: &[u8; 10]) -> [u64; 36]
-    ensures { Scheduled key.now result }
+pub fn schedule<K: RoundKey>(key: &[u8; 10]) -> [K; 36]
+    ensures { map K.words result ≡ round_keys key.now }
 {
     let mut wk = register(key);
-    let mut keys = [round_key(&wk); 36];
-    for r in 0..35 {
-        wk = updated(&wk, constant(r));
-        keys[r + 1] = round_key(&wk);
+    let mut keys = [K::of_register(&wk); 36];
+    for (r, constant) in CONSTANTS.iter().enumerate() {
+        wk = updated::<K>(&wk, *constant);
+        keys[r + 1] = K::of_register(&wk);
     }
     keys
 }
-
-// The S-box.
-const SBOX: [u8; 16] = [
-    0xc, 0x0, 0xf, 0xa, 0x2, 0xb, 0x9, 0x5, 0x8, 0x3, 0xd, 0x7, 0x1, 0xe, 0x6, 0x4,
-];
 
 // The constants of rounds 1 to 35, after each of which the register is updated.
 const CONSTANTS: [u8; 35] = [

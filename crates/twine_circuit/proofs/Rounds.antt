@@ -1,5 +1,5 @@
 -- A round on all lanes at once.
-use Rattle.std.proofs.Common.{◌≡◌, ℕ, suc, ◌+◌, ◌-◌, ◌^◌, ◌<◌, List, [], ◌∷◌, get_or, refl, ap, ◌∙◌, ap₂, add-one, arith}
+use Rattle.std.proofs.Common.{◌≡◌, ℕ, ◌-◌, ◌^◌, ◌<◌, List, [], ◌∷◌, get_or, refl, ap, ◌∙◌, ap₂, arith}
 use lib.Bits.{bit_xor, xor_comm}
 use Rattle.bits.specs.Lanes.{lane, planes, gathered}
 use Rattle.bits.specs.Linear.{value}
@@ -8,7 +8,7 @@ use Rattle.bits.proofs.Lanes.{Fit, Lifts, Is, four, found, wanted, substituted a
 use Rattle.bits.proofs.Lift.{lift_outs}
 use Rattle.bits.proofs.Listed.{sixteen_eq}
 use Rattle.twine_circuit.specs.declared.halves.Halves.{Halves}
-use Rattle.twine.specs.Twine.{S, permuted, substituted, rounds}
+use Rattle.twine.specs.Twine.{S, permuted, substituted}
 use Rattle.twine_circuit.specs.SBoxCircuit.{gates, places, circuit}
 use Rattle.twine_circuit.specs.Halves.{place, words, key_words, turning, crossing}
 
@@ -61,11 +61,3 @@ module _ (x : Halves) (key s n : ℕ) (hr : x.right < 2 ^ 32) (hs : s < 2 ^ 32) 
   round_is =
       sixteen_eq (new 0 (omega arith)) refl (new 3 (omega arith)) refl (new 5 (omega arith)) refl (new 4 (omega arith)) refl (new 6 (omega arith)) refl (new 7 (omega arith)) refl
       (new 1 (omega arith)) refl (new 2 (omega arith)) refl
-
-pub rounds_none : (RK : ℕ → List ℕ) (x : List ℕ) → rounds RK x 0 ≡ x
-unfolding rounds
-rounds_none RK x = refl
-
-pub rounds_more : (RK : ℕ → List ℕ) (x : List ℕ) (i : ℕ) → rounds RK x (i + 1) ≡ permuted (substituted (RK (suc i)) (rounds RK x i))
-unfolding rounds
-rounds_more RK x i = ap (rounds RK x) (add-one i)

@@ -1,11 +1,11 @@
 -- A state as the code keeps it: the words at the even places are the eight lanes of `left`, those at the odd places the lanes of
 -- `right`. The lanes are in such an order that the block shuffle puts the words of `left` into `right` lane by lane.
-use Rattle.std.specs.Prelude.{◌≡◌, ℕ, suc, ◌+◌, ◌*◌, ◌/◌, ◌%◌, ◌<◌, cond, List, [], ◌∷◌, ◌==◌, slice_index}
+use Rattle.std.specs.Prelude.{ℕ, ◌+◌, ◌*◌, ◌/◌, ◌%◌, cond, List, [], ◌∷◌, ◌==◌, slice_index}
 use Rattle.bits.specs.Lanes.{lane}
 use Rattle.bits.specs.Linear.{Linear, whole, plus, under, up, down}
-use Rattle.bits.specs.Nibbles.{each, nibbles}
+use Rattle.bits.specs.Nibbles.{each}
 use Rattle.twine_circuit.specs.declared.halves.Halves.{Halves}
-use Rattle.twine.specs.Twine.{π, RK}
+use Rattle.twine.specs.Twine.{π}
 
 -- bit k of lane i, counted from the right: the bits of a lane are 8 places apart
 abbrev pub place : ℕ → ℕ
@@ -27,17 +27,9 @@ words x = each 16 (λ h. slice_index (lanes (cond (h % 2 == 0) x.left x.right)) 
 abbrev pub key_words : ℕ → List ℕ
 key_words k = each 8 (λ j. slice_index (lanes k) (slot (2 * j)))
 
--- the 36 round keys of a key, that of round i + 1 at place i
-abbrev pub Scheduled : List ℕ → List ℕ → Type 0
-Scheduled key keys = (i : ℕ) → i < 36 → key_words (slice_index keys i) ≡ RK (nibbles key) (suc i)
-
 -- the state before a block shuffle: X_h is what X_π(h) is after it
 abbrev pub unshuffled : List ℕ → List ℕ
 unshuffled x = each 16 (λ h. slice_index x (π h))
-
--- a list of 4-bit words
-abbrev pub Nibbles : List ℕ → Type 0
-Nibbles xs = (i : ℕ) → slice_index xs i < 16
 
 -- the bits of a word of 4 bits, 8 places apart
 abbrev pub spreading : Linear

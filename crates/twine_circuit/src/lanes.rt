@@ -2,7 +2,10 @@
 ghost use Rattle.std.specs.Prelude.{◌≡◌, ◌<◌};
 ghost use Rattle.bits.specs.Lanes.{lane};
 ghost use Rattle.bits.specs.Linear.{value};
-ghost use Rattle.twine_circuit.specs.Halves.{place, lanes, spreading, Nibbles};
+ghost use Rattle.twine_circuit.specs.Halves.{place, lanes, spreading};
+
+use std::array;
+use twine::words::{Word, Words};
 
 // The word in lane 0.
 fn spread(word: u8) -> u32
@@ -13,41 +16,31 @@ fn spread(word: u8) -> u32
 }
 
 // The word of lane 0.
-fn collected(x: u32) -> u8
-    ensures is { result ≡ lane place x 0 }
-    ensures small { result < 16 }
+#[tactic(auto, unfolding(bits::specs::Lanes::lane))]
+fn collected(x: u32) -> Word
+    ensures { result.value ≡ lane place x 0 }
 {
-    (x % 2 + (x >> 8) % 2 * 2 + (x >> 16) % 2 * 4 + (x >> 24) % 2 * 8) as u8
+    Word {
+        value: (x % 2 + (x >> 8) % 2 * 2 + (x >> 16) % 2 * 4 + (x >> 24) % 2 * 8) as u8,
+    }
 }
 
 // The lanes that hold these words.
-pub(crate) fn packed(n: &[u8; 8]) -> u32
-    requires { Nibbles n.now }
-    ensures { lanes result ≡ n.now }
+pub(crate) fn packed(words: Words<8>) -> u32
+    ensures { lanes result ≡ words.values }
 {
-    spread(n[0])
-        ^ (spread(n[1]) << 1)
-        ^ (spread(n[2]) << 2)
-        ^ (spread(n[3]) << 3)
-        ^ (spread(n[4]) << 4)
-        ^ (spread(n[5]) << 5)
-        ^ (spread(n[6]) << 6)
-        ^ (spread(n[7]) << 7)
+    let mut x = 0;
+    for (i, word) in words.values.iter().enumerate() {
+        x ^= spread(*word) << i;
+    }
+    x
 }
 
 // The words in the lanes.
-pub(crate) fn unpacked(x: u32) -> [u8; 8]
-    ensures are { result ≡ lanes x }
-    ensures small { Nibbles result }
+pub(crate) fn unpacked(x: u32) -> Words<8>
+    ensures { result.values ≡ lanes x }
 {
-    [
-        collected(x),
-        collected(x >> 1),
-        collected(x >> 2),
-        collected(x >> 3),
-        collected(x >> 4),
-        collected(x >> 5),
-        collected(x >> 6),
-        collected(x >> 7),
-    ]
+    Words {
+        values: array::from_fn(|i| collected(x >> i).value),
+    }
 }

@@ -6,5 +6,5 @@
 mod halves;
 mod lanes;
 mod round;
-mod schedule;
+mod round_key;
 pub mod twine80;

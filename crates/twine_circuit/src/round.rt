@@ -1,14 +1,18 @@
-// A round of TWINE on all lanes at once: the S-boxes as a boolean circuit, the block shuffle as moves of lanes.
-ghost use Rattle.std.specs.Prelude.{◌≡◌, ℕ, ◌<◌, [], ◌∷◌};
+// The rounds of TWINE on all lanes at once: the S-boxes as a boolean circuit, the block shuffle as moves of lanes.
+ghost use Rattle.std.specs.Prelude.{◌≡◌, ℕ, ◌<◌, List, [], ◌∷◌, map};
 ghost use Rattle.bits.specs.Lanes.{lane};
 ghost use Rattle.bits.specs.Linear.{value};
-ghost use Rattle.twine.specs.Twine.{S, permuted, substituted};
+ghost use Rattle.bits.specs.Nibbles.{nibbles};
+ghost use Rattle.twine.specs.Twine.{S, RK, enc, permuted, substituted};
+ghost use Rattle.twine.specs.Split.{round_keys};
 ghost use Rattle.twine_circuit.specs.SBoxCircuit.{circuit};
-ghost use Rattle.twine_circuit.specs.Halves.{place, words, key_words, turning, crossing};
+ghost use Rattle.twine_circuit.specs.Halves.{place, words, key_words, turning, crossing, unshuffled};
 
 use crate::halves::Halves;
+use crate::round_key::LaneKey;
 
 // An S-box on each bit position of four words, that of the lowest bits first.
+#[tactic(auto, unfolding(crate::specs::SBoxCircuit::circuit))]
 pub(crate) fn sboxes(a: u32, b: u32, c: u32, d: u32) -> [u32; 4]
     ensures { result ≡ circuit 0xffff_ffff (a ∷ b ∷ c ∷ d ∷ []) }
 {
@@ -34,6 +38,7 @@ pub(crate) fn sboxes(a: u32, b: u32, c: u32, d: u32) -> [u32; 4]
 }
 
 // S of each lane.
+#[tactic(auto, using(crate::proofs::Rounds::sub_lane))]
 fn sub_lanes(x: u32) -> u32
     ensures { (i : ℕ) → i < 8 → lane place result i ≡ S (lane place x i) }
 {
@@ -60,11 +65,22 @@ fn crossed(x: u32) -> u32
 }
 
 // A round with its block shuffle, by which the words at the even places become those at the odd places.
-pub(crate) fn round(x: Halves, key: u32) -> Halves
-    ensures { words result ≡ permuted (substituted (key_words key) (words x)) }
+fn round(x: Halves, key: LaneKey) -> Halves
+    ensures { words result ≡ permuted (substituted (key_words key.lanes) (words x)) }
 {
     Halves {
-        left: turned(x.right) ^ crossed(sub_lanes(x.left ^ key)),
+        left: turned(x.right) ^ crossed(sub_lanes(x.left ^ key.lanes)),
         right: x.left,
     }
+}
+
+// 36 rounds on a state, with the block shuffle of the last one too.
+pub(crate) fn encrypted(keys: &[LaneKey; 36], state: Halves) -> Halves
+    ensures { (key : List ℕ) → map (λ k. key_words k.lanes) keys.now ≡ round_keys key → unshuffled (words result) ≡ enc (RK (nibbles key)) (words state) }
+{
+    let mut x = state;
+    for key in keys {
+        x = round(x, *key);
+    }
+    x
 }

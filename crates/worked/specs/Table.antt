@@ -10,6 +10,7 @@ use Rattle.ledger.specs.History.{standing_of}
 use Rattle.ledger.specs.declared.standing.Standing.TheVariants.{Old, Signed, Open}
 use Rattle.tube.specs.Read.{parsed}
 use Rattle.tube.specs.Write.{tube_of}
+use Rattle.tube.specs.declared.fault.Section.TheVariants.{Tag, Beyond}
 use Rattle.tube.specs.declared.fault.TubeFault.TheVariants.{Form}
 
 -- the words (1, 2, 4, 8), each of one byte
@@ -42,5 +43,5 @@ pub record Worked : Type 0 where
   pub seventy : standing_of 0 (70 ∷ []) 70 ≡ Signed
   -- the tube: its length, and how it is refused without its last byte and with one byte more
   pub long : (code param x y : ℕ) → length (small code param x y) ≡ 37
-  pub short : (code param x y : ℕ) → parsed (take 36 (small code param x y)) ≡ Err (Form 5 33)
-  pub more : (code param x y z : ℕ) → parsed (small code param x y ++ (z ∷ [])) ≡ Err (Form 6 37)
+  pub short : (code param x y : ℕ) → parsed (take 36 (small code param x y)) ≡ Err (Form Tag 33)
+  pub more : (code param x y z : ℕ) → parsed (small code param x y ++ (z ∷ [])) ≡ Err (Form Beyond 37)

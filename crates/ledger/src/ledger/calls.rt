@@ -57,7 +57,25 @@ impl Ledger {
         ensures marks { result ≡ by_marks self.now.high self.now.marks number }
         ensures history { (floor : ℕ) (ks : List ℕ) → Represents self.now.high self.now.marks floor ks → result ≡ standing_of floor ks number }
     {
-        told(self.high, self.marks, number)
+        self.told(number)
+    }
+
+    // Kept: a method of its own, since as one with `standing` the law on histories stays open at its ends.
+    fn told(&self, number: u64) -> Standing
+        ensures { result ≡ by_marks self.now.high self.now.marks number }
+    {
+        if number > self.high {
+            return Standing::Open;
+        }
+        let back = self.high - number;
+        if back >= WINDOW {
+            return Standing::Old;
+        }
+        if (self.marks >> back) % 2 == 1 {
+            Standing::Signed
+        } else {
+            Standing::Open
+        }
     }
 
     // Enters a number that stands open and is not above the limit. Any other is refused, and the ledger given back as it was.
@@ -74,66 +92,34 @@ impl Ledger {
     fn may_sign(&self, number: u64) -> bool
         ensures { result ≡ may_sign self.now.limit self.now.high self.now.marks number }
     {
-        if number > self.limit {
-            return false;
-        }
-        match told(self.high, self.marks, number) {
-            Standing::Old => false,
-            Standing::Signed => false,
-            Standing::Open => true,
-        }
+        number <= self.limit && matches!(self.told(number), Standing::Open)
     }
 
     fn enter(self, number: u64) -> Ledger
         requires { MaySign self number }
         ensures { Entered self number result }
     {
-        let Ledger {
-            floor,
-            high,
-            marks,
-            limit,
-        } = self;
-        let marks = entered(high, marks, number);
         Ledger {
-            floor,
-            high: number.max(high),
-            marks,
-            limit,
+            floor: self.floor,
+            high: number.max(self.high),
+            marks: self.marked(number),
+            limit: self.limit,
         }
     }
-}
 
-// The marks with the number among them, counted back from the larger of the two.
-fn entered(high: u64, marks: u64, number: u64) -> u64
-    requires { high < number + 64 }
-    ensures { result ≡ marked high marks number }
-{
-    if number <= high {
-        return marks | (1 << (high - number));
-    }
-    let ahead = number - high;
-    if ahead < WINDOW {
-        (marks << ahead) | 1
-    } else {
-        1
-    }
-}
-
-// How a number stands by the highest number and the marks.
-fn told(high: u64, marks: u64, number: u64) -> Standing
-    ensures { result ≡ by_marks high marks number }
-{
-    if number > high {
-        return Standing::Open;
-    }
-    let back = high - number;
-    if back >= WINDOW {
-        return Standing::Old;
-    }
-    if (marks >> back) % 2 == 1 {
-        Standing::Signed
-    } else {
-        Standing::Open
+    // The marks with the number among them, counted back from the larger of it and the highest.
+    fn marked(&self, number: u64) -> u64
+        requires { self.now.high < number + 64 }
+        ensures { result ≡ marked self.now.high self.now.marks number }
+    {
+        if number <= self.high {
+            return self.marks | (1 << (self.high - number));
+        }
+        let ahead = number - self.high;
+        if ahead < WINDOW {
+            (self.marks << ahead) | 1
+        } else {
+            1
+        }
     }
 }

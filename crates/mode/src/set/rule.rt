@@ -4,9 +4,10 @@ ghost use Rattle.mode.specs.Set.{new_set, shown_result};
 
 use crate::fault::ModeFault;
 use crate::set::ParameterSet;
+use crate::set::field::SetField;
 
 impl ParameterSet {
-    // The set of these fields, or refusal 4 with the first field that breaks the rule: 1 code, 2 width, 3 nonce, 4 tag.
+    // The set of these fields, or refusal 4 with the first field that breaks the rule.
     pub fn new(
         code: u8,
         width: u8,
@@ -17,16 +18,16 @@ impl ParameterSet {
         ensures { shown_result result ≡ new_set code width nonce tag param }
     {
         if code != 1 && code != 2 {
-            return Err(ModeFault::Set(1));
+            return Err(ModeFault::Set(SetField::Code));
         }
         if width != 8 && width != 16 {
-            return Err(ModeFault::Set(2));
+            return Err(ModeFault::Set(SetField::Width));
         }
         if nonce < 1 || nonce > width - 2 {
-            return Err(ModeFault::Set(3));
+            return Err(ModeFault::Set(SetField::Nonce));
         }
         if tag < 1 || tag > width {
-            return Err(ModeFault::Set(4));
+            return Err(ModeFault::Set(SetField::Tag));
         }
         Ok(ParameterSet {
             code,

@@ -33,29 +33,30 @@ impl Listening {
     }
 }
 
+// Kept: one line each, since a caller asks either state by the same names.
 impl Holding {
     pub fn set(&self) -> ParameterSet
-        ensures { result ≡ self.now.«set» }
+        ensures { result ≡ self.now.end.«set» }
     {
-        self.set
+        self.end.set()
     }
 
     pub fn floor(&self) -> u64
-        ensures { result ≡ self.now.ledger.floor }
+        ensures { result ≡ self.now.end.ledger.floor }
     {
-        self.ledger.floor()
+        self.end.floor()
     }
 
     pub fn high(&self) -> u64
-        ensures { result ≡ self.now.ledger.high }
+        ensures { result ≡ self.now.end.ledger.high }
     {
-        self.ledger.high()
+        self.end.high()
     }
 
     pub fn marks(&self) -> u64
-        ensures { result ≡ self.now.ledger.marks }
+        ensures { result ≡ self.now.end.ledger.marks }
     {
-        self.ledger.marks()
+        self.end.marks()
     }
 
     // The number of the tube whose contents were handed over.

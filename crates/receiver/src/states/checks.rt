@@ -17,6 +17,7 @@ use mode::count::RunCount;
 use mode::fault::ModeFault;
 use mode::interface::Mode;
 use mode::set::ParameterSet;
+use tube::fault::Section;
 use tube::reading::read;
 use tube::tube::Tube;
 
@@ -26,13 +27,13 @@ fn check_ours(set: &ParameterSet, tube: &Tube) -> Result<(), EndFault>
     ensures admits { OnOk result ((tube.now.nonce.len ≡ «set».now.nonce) × (tube.now.tag.len ≡ «set».now.tag)) }
 {
     if tube.code != set.code() || tube.param != set.param() {
-        return Err(EndFault::Differs(1));
+        return Err(EndFault::Differs(Section::Set));
     }
     if tube.nonce.len != set.nonce() {
-        return Err(EndFault::Differs(2));
+        return Err(EndFault::Differs(Section::Number));
     }
     if tube.tag.len != set.tag() {
-        return Err(EndFault::Differs(5));
+        return Err(EndFault::Differs(Section::Tag));
     }
     Ok(())
 }
@@ -107,8 +108,7 @@ pub(crate) fn finish<M: Mode>(
     let count = mode.open(set, nonce, label, contents, tag, &mut out[0..size], work)?;
     Ok(Opened {
         number: tube.number as u64,
-        label_at: tube.label.at,
-        label_len: tube.label.len,
+        label: tube.label,
         contents_len: size,
         count,
     })

@@ -21,10 +21,8 @@ impl Listening {
     pub fn new(set: ParameterSet, floor: u64) -> Result<Listening, EndFault>
         ensures { Made «set» floor result }
     {
-        match Ledger::new(floor, last_number(&set)) {
-            Some(ledger) => Ok(Listening { set, ledger }),
-            None => Err(EndFault::Start(floor)),
-        }
+        let ledger = Ledger::new(floor, last_number(&set)).ok_or(EndFault::Start(floor))?;
+        Ok(Listening { set, ledger })
     }
 
     // Hands the contents of a tube over: writes them into the first bytes of `out`, and holds the tube's number until it is signed or
@@ -79,17 +77,13 @@ impl Listening {
         ensures { (answered result ≡ answer) × Kept self result }
     {
         match answer {
-            Ok(opened) => {
-                let Listening { set, ledger } = self;
-                Ok((
-                    Holding {
-                        set,
-                        ledger,
-                        number: opened.number,
-                    },
-                    opened,
-                ))
-            }
+            Ok(opened) => Ok((
+                Holding {
+                    end: self,
+                    number: opened.number,
+                },
+                opened,
+            )),
             Err(fault) => Err((self, fault)),
         }
     }

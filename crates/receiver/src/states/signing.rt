@@ -17,11 +17,8 @@ impl Holding {
         ensures runs { (m : Meaning) (left : ℕ) → GoesOn m (holding self) left (signs self.number) (listening result) left }
         ensures promise { (m : Meaning) (left : ℕ) → Lawful m → Keeps m (holding self) left (signs self.number) left }
     {
-        let Holding {
-            set,
-            ledger,
-            number,
-        } = self;
+        let Holding { end, number } = self;
+        let Listening { set, ledger } = end;
         Listening {
             set,
             ledger: enter(ledger, number),
@@ -34,12 +31,8 @@ impl Holding {
         ensures runs { (m : Meaning) (left : ℕ) → GoesOn m (holding self) left returns (listening result) left }
         ensures promise { (m : Meaning) (left : ℕ) → Lawful m → Keeps m (holding self) left returns left }
     {
-        let Holding {
-            set,
-            ledger,
-            number: _,
-        } = self;
-        Listening { set, ledger }
+        let Holding { end, number: _ } = self;
+        end
     }
 }
 
@@ -48,8 +41,5 @@ fn enter(ledger: Ledger, number: u64) -> Ledger
     requires { Due ledger number }
     ensures { Entered ledger number result }
 {
-    match ledger.sign(number) {
-        Ok(ledger) => ledger,
-        Err(ledger) => ledger,
-    }
+    ledger.sign(number).unwrap_or_else(|before| before)
 }

@@ -7,7 +7,6 @@ ghost use Rattle.sender.specs.New.{new_sending, shown};
 ghost use Rattle.sender.specs.Send.{send_causes, send_verdict, send_answer, send_out, send_left, send_next, Passes};
 
 use crate::sending::Sending;
-use crate::sending::write::write_tube;
 use crate::sent::Sent;
 use link::fault::EndFault;
 use link::numbers::last_number;
@@ -78,15 +77,7 @@ impl Sending {
         check_work(work.len())?;
         let guard = Wiped { bytes: work };
         self.check(mode, label.len(), contents.len(), out.len())?;
-        let sent = write_tube(
-            mode,
-            &self.set,
-            self.next,
-            label,
-            contents,
-            out,
-            guard.bytes,
-        )?;
+        let sent = self.write_tube(mode, label, contents, out, guard.bytes)?;
         self.next += 1;
         Ok(sent)
     }

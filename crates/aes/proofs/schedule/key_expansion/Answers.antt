@@ -1,32 +1,27 @@
-use Rattle.std.proofs.Common.{◌≡◌, ℕ, ◌-◌, get_or, sym, ap, ◌∙◌, arith, length-set}
-use Rattle.aes.specs.Field.{◌⊕◌}
-use Rattle.std.proofs.lemmas.List.Edits.{fill_by_more}
-use Rattle.std.proofs.lemmas.List.{take_all}
-use Rattle.aes.specs.Fips197.{key_word, KeyExpansion, words}
-use Rattle.aes.proofs.Steps.{words_none, words_more}
+use Rattle.std.proofs.Common.{◌≡◌, ◌+◌, ◌≢◌, [], get_or, replicate, refl, sym, ap, ◌∙◌, arith, length-set, get_or-set_same, get_or-set_other, below_more}
+use Rattle.std.proofs.lemmas.List.FromFn.{fill_by_all}
+use Rattle.bits.proofs.Everywhere.{everywhere}
+use Rattle.aes.specs.Fips197.{KeyExpansion, Rcon, SubWord}
+use Rattle.aes.specs.declared.schedule.TheConstants.{RCON}
+use Rattle.aes.specs.Rounds.{round_words, round_keys}
+use Rattle.aes.proofs.Words.{first_words, next_words}
 use Rattle.aes.proofs.schedule.key_expansion.Goals as goal
 
-pub loop-c-preserved : goal.loop-c-preserved
-loop-c-preserved c =
-    let f = fill_by_more (key_word c.args.key.now) c.loop-c.w c.loop-c.c 0 (omega arith) c.loop-c.invariant.1 in (
-      length-set c.loop-c.w c.loop-c.c c.word.result ∙ c.loop-c.invariant.0,
-      λ j h. let e = f j h in cc,
-    )
+pub loop-round-init : goal.loop-round-init
+loop-round-init g c = (refl, λ k h. let z : k ≡ 0 = omega arith in ap (λ i. get_or (replicate 11 c.columns_of-keys.result) i []) z ∙ c.columns_of-keys.ensures ∙ first_words c.args.key.now ∙ ap (round_words (KeyExpansion c.args.key.now)) (sym z))
 
-pub loop-i-init : goal.loop-i-init
-loop-i-init c = (c.loop-c.invariant.0, words_none c.args.key.now c.loop-c.w c.loop-c.invariant.0 (λ j h. c.loop-c.invariant.1 j (omega arith)))
-
-pub loop-i-preserved : goal.loop-i-preserved
-loop-i-preserved c =
-    let old : ℕ = get_or c.loop-i.w (c.loop-i.i - 4) 0 in
-    let v : ℕ = old ⊕ c.temp.result in (
-      length-set c.loop-i.w c.loop-i.i v ∙ c.loop-i.invariant.0,
-      words_more c.args.key.now c.loop-i.w c.loop-i.i v c.loop-i.invariant.0 (omega arith) (omega arith) c.loop-i.invariant.1 (ap (◌⊕◌ old) c.temp.ensures),
+pub loop-round-preserved : goal.loop-round-preserved
+loop-round-preserved g c =
+    let keys = c.loop-round.keys in let j = c.loop-round.round in
+    let k : get_or RCON j 0 ≡ Rcon (j + 1) = everywhere 0 10 (λ i. get_or RCON i 0) (λ i. Rcon (i + 1)) refl j (omega arith) in
+    let s = c.sub_word.ensures ∙ ap SubWord c.rot_word.ensures in
+    let e = next_words c.args.key.now j (omega arith) (get_or keys j []) c.sub_word.result (get_or RCON j 0) _ _ _ (c.loop-round.invariant.1 j (omega arith)) s k refl refl refl in (
+      length-set keys (j + 1) _ ∙ c.loop-round.invariant.0,
+      below_more _ (j + 1)
+          (λ i h. let n : i ≢ j + 1 = omega arith in get_or-set_other keys (j + 1) i _ [] n ∙ c.loop-round.invariant.1 i h)
+          (get_or-set_same keys (j + 1) _ [] (omega arith) ∙ e),
     )
 
 pub returns : goal.returns
-unfolding KeyExpansion
-returns c =
-    let i : c.loop-i.i ≡ 44 = omega arith in
-    let n : c.loop-i.i - 4 ≡ 40 = omega arith in
-    sym (take_all c.loop-i.i c.loop-i.w (omega arith)) ∙ c.loop-i.invariant.1 ∙ ap (words c.args.key.now) n
+unfolding round_keys
+returns g c = fill_by_all (round_words (KeyExpansion c.args.key.now)) c.loop-round.keys 11 [] c.loop-round.invariant.0 (λ k h. c.loop-round.invariant.1 k (omega arith))

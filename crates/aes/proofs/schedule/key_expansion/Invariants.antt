@@ -1,9 +1,7 @@
-use Rattle.std.proofs.Common.{◌≡◌, ℕ, ◌-◌, ◌<◌, length, get_or, take}
-use Rattle.aes.specs.Fips197.{key_word, words}
+use Rattle.std.proofs.Common.{◌≡◌, ℕ, ◌+◌, ◌<◌, length, get_or, []}
+use Rattle.aes.specs.Fips197.{KeyExpansion}
+use Rattle.aes.specs.Rounds.{round_words}
 use Rattle.aes.proofs.schedule.key_expansion.Given as goal
 
-abbrev pub invariant-loop-c : goal.invariant-loop-c
-invariant-loop-c l = (length l.w ≡ 44) × ((j : ℕ) → j < l.c → get_or l.w j 0 ≡ key_word l.key j)
-
-abbrev pub invariant-loop-i : goal.invariant-loop-i
-invariant-loop-i l = (length l.w ≡ 44) × (take l.i l.w ≡ words l.key (l.i - 4))
+abbrev pub invariant-loop-round : goal.invariant-loop-round
+invariant-loop-round g l = (length l.keys ≡ 11) × ((k : ℕ) → k < l.round + 1 → get_or l.keys k [] ≡ round_words (KeyExpansion l.key) k)

@@ -6,4 +6,4 @@ pub returns : goal.returns
 unfolding sboxes
 returns c =
     let T = c.top.ensures in
-    staged 0xffff_ffff_ffff_ffff c.args.p T.0 T.1 T.2 c.norm.ensures c.inverse-t.ensures c.products.ensures c.products-2.ensures c.bottom.ensures
+    staged 0xffff_ffff_ffff_ffff c.args.p T.low T.high T.sums c.norm.ensures c.inverse-t.ensures c.products.ensures c.products-2.ensures c.bottom.ensures

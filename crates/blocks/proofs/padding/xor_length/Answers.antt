@@ -1,21 +1,17 @@
-use Rattle.std.proofs.Common.{◌++◌, length, drop, sym, ap, ◌∙◌, inl, inr, arith}
-use Rattle.std.proofs.lemmas.List.{take_all, drop_all, append-nil}
+use Rattle.std.proofs.Common.{◌≡◌, ◌-◌, length, take, drop, ap, ◌∙◌, arith, length-drop}
+use Rattle.std.specs.Int.{bytes_high_first}
+use Rattle.std.proofs.lemmas.List.{take_all}
 use Rattle.blocks.specs.Blocks.{◌⊕◌}
-use Rattle.blocks.specs.Pads.{Len}
-use Rattle.blocks.proofs.Padded.{str_turn, str_end}
+use Rattle.blocks.proofs.Padded.{number_in}
 use Rattle.blocks.proofs.padding.xor_length.Goals as goal
 
-pub loop-i-init : goal.loop-i-init
-loop-i-init c =
+pub returns : goal.returns
+returns c =
     let B = c.args.block.now in
-    let L = Len (length B) c.args.x.now in
-    (ap (λ Z. (Z ⊕ L) ++ drop (length B) B) (take_all (length B) B (omega arith)) ∙ ap (λ Z. (B ⊕ L) ++ Z) (drop_all (length B) B (omega arith)) ∙ append-nil (B ⊕ L), omega arith)
-
-pub loop-i-preserved : goal.loop-i-preserved
-loop-i-preserved c = (str_turn c.loop-i.block c.loop-i.i c.loop-i.high (omega arith) (omega arith) ∙ c.loop-i.invariant.0, omega arith)
-
-pub returns-else-high-gt0 : goal.returns-else-high-gt0
-returns-else-high-gt0 c = sym (str_end c.loop-i.block c.loop-i.i c.loop-i.high (inr (omega arith))) ∙ c.loop-i.invariant.0
-
-pub returns-after-loop-i : goal.returns-after-loop-i
-returns-after-loop-i c = sym (str_end c.loop-i.block c.loop-i.i c.loop-i.high (inl (omega arith))) ∙ c.loop-i.invariant.0
+    let n = length c.args.x.now in
+    let k = c.min-n.result in
+    let m = c.min-n.ensures in
+    let at = length B - k in
+    let y : take (8 - (8 - k)) (drop (8 - k) c.to_be_bytes-number.result) ≡ drop (8 - k) (bytes_high_first 8 n) =
+    ap (λ Z. take (8 - (8 - k)) (drop (8 - k) Z)) c.to_be_bytes-number.ensures ∙ take_all (8 - (8 - k)) (drop (8 - k) (bytes_high_first 8 n)) (omega (arith, length-drop (8 - k) (bytes_high_first 8 n))) in
+    number_in B c.xor_into.new.block n k (omega arith) m (c.xor_into.ensures ∙ ap (λ Z. take (length B - at) (drop at B) ⊕ Z) y)

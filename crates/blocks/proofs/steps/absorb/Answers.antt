@@ -1,28 +1,10 @@
-use Rattle.std.proofs.Common.{◌≡◌, ◌+◌, ◌-◌, ◌<◌, length, drop, sym, refl, ap, ◌∙◌, arith}
-use Rattle.cipher.specs.Left.{spent}
+use Rattle.std.proofs.Common.{◌≡◌, ◌+◌, ◌-◌, ◌<◌, length, drop, sym, ap, ◌∙◌, arith}
 use Rattle.blocks.specs.Blocks.{◌⊕◌, parts, blocks, front, last}
 use Rattle.blocks.specs.Chain.{chain}
 use Rattle.blocks.proofs.Xors.{xor_zap}
-use Rattle.blocks.proofs.Cuts.{parts_none, parts_more, blocks_none, chain_last, last_drop}
-use Rattle.blocks.proofs.Spends.{width_bounds, spent_none, ran_as, ran_then, ran_left}
+use Rattle.blocks.proofs.Cuts.{parts_more, chain_last, last_drop}
+use Rattle.blocks.proofs.Spends.{width_bounds, ran_as, ran_then}
 use Rattle.blocks.proofs.steps.absorb.Goals as goal
-
-pub returns-then-text-eq0 : goal.returns-then-text-eq0
-returns-then-text-eq0 g c =
-    let b = g.C.Cipher.width c.args.cipher.now in
-    let hb = (width_bounds b (g.met.C.Cipher.widths c.args.cipher.now)).0 in
-    let z = c.if-text-eq0.true in
-    let l = g.C.Allowance.remaining c.args.cipher.now in
-    record {
-      answers = refl;
-      state = ap (chain (g.C.Cipher.E c.args.cipher.now) c.args.state.now) (sym (blocks_none b c.args.text.now hb z));
-      zap = λ h. absurd (omega arith);
-      ran = record {
-        width = refl;
-        same = refl;
-        left = sym (ap (spent l) (ap (parts b) z ∙ parts_none b hb) ∙ spent_none l);
-      };
-    }
 
 pub overflow_sub-text : goal.overflow_sub-text
 overflow_sub-text g c =
@@ -32,20 +14,6 @@ overflow_sub-text g c =
     let a = c.in_ok-n.ensures.answers in
     let m : c.in_ok-n.n ≡ length (last (blocks b T)) = cc in
     omega (arith, (last_drop b T hb).0)
-
-pub run_one-requires : goal.run_one-requires
-run_one-requires g c =
-    let b = g.C.Cipher.width c.args.cipher.now in
-    let hb = (width_bounds b (g.met.C.Cipher.widths c.args.cipher.now)).0 in
-    let hl = g.met.C.Allowance.bounded c.args.cipher.now in
-    let r = c.absorb_front.ensures.ran in
-    let n = length c.args.text.now in
-    let h : 0 < n = omega arith in
-    let p = parts_more b n hb h in
-    record {
-      width = c.xor_into.auto.block ∙ c.absorb_front.auto.state ∙ c.requires.width ∙ sym r.width;
-      left = ran_left (parts b n - 1) 1 hl (omega arith) r;
-    }
 
 pub returns : goal.returns
 returns g c =

@@ -1,7 +1,5 @@
-use Rattle.std.proofs.Common.{◌<◌, length, take, drop, Ok, sym, ap, ◌∙◌, arith, length-drop}
-use Rattle.blocks.specs.Chain.{chain}
-use Rattle.blocks.proofs.Cuts.{front_none}
-use Rattle.blocks.proofs.Spends.{width_bounds, spent_front, spent_front_end}
+use Rattle.std.proofs.Common.{◌<◌, length, take, drop, ap, ◌∙◌, arith, length-drop}
+use Rattle.blocks.proofs.Spends.{width_bounds, spent_front}
 use Rattle.blocks.proofs.Turns.{front_turn}
 use Rattle.blocks.proofs.steps.absorb_front.Goals as goal
 
@@ -21,21 +19,3 @@ loop-rest-preserved g c =
     let t = front_turn b E c.loop-rest.state c.run_one.new.block X c.split_at.result.0.now c.split_at.result.1.now hb h f d s in
     let l = spent_front b (length X) (length c.split_at.result.1.now) _ _ hb h (ap length d ∙ length-drop b X) hl i.4 r.left in
     (r.width ∙ i.0, r.same ∙ i.1, t.0 ∙ i.2, t.1 ∙ i.3, l.0, l.1 ∙ i.5)
-
-pub returns : goal.returns
-returns g c =
-    let b = g.C.Cipher.width c.args.cipher.now in
-    let E = g.C.Cipher.E c.args.cipher.now in
-    let hb = (width_bounds b (g.met.C.Cipher.widths c.args.cipher.now)).0 in
-    let i = c.loop-rest.invariant in
-    let X = c.loop-rest.rest.now in
-    let e = front_none b hb X (omega arith) in
-    record {
-      answers = ap (λ Z. Ok (length Z)) (sym e.1 ∙ i.3);
-      state = ap (chain E c.loop-rest.state) (sym e.0) ∙ i.2;
-      ran = record {
-        width = i.0;
-        same = i.1;
-        left = spent_front_end b (length X) _ _ _ hb (omega arith) i.5;
-      };
-    }

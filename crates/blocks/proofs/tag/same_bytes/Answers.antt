@@ -1,18 +1,19 @@
-use Rattle.std.proofs.Common.{take, sym, ap, ◌∙◌, arith}
-use Rattle.std.specs.Str.{bytes_eq}
-use Rattle.std.proofs.lemmas.List.{take_all}
-use Rattle.blocks.proofs.Same.{same_lengths, same_more}
+use Rattle.std.proofs.Common.{◌≡◌, rules, [], ◌∷◌, length, length-append}
+use Rattle.std.specs.Slice.Iter.{iter_rest}
+use Rattle.std.specs.Iterator.Adapters.{zip_first, zip_second}
+use Rattle.std.proofs.lemmas.Slice.Zip.{zip_turn}
+use Rattle.blocks.proofs.Same.{same_more}
 use Rattle.blocks.proofs.tag.same_bytes.Goals as goal
 
-pub returns-then-a-b : goal.returns-then-a-b
-returns-then-a-b c = sym (same_lengths c.args.a.now c.args.b.now c.if-a-b.true)
-
-pub loop-i-preserved : goal.loop-i-preserved
-loop-i-preserved c = same_more c.args.a.now c.args.b.now c.loop-i.i c.loop-i.differ (omega arith) (omega arith) c.loop-i.invariant
-
-pub returns : goal.returns
-returns c =
+pub loop-x-preserved : goal.loop-x-preserved
+loop-x-preserved c =
     let A = c.args.a.now in
     let B = c.args.b.now in
-    let i = c.loop-i.i in
-    c.loop-i.invariant ∙ ap (λ Z. bytes_eq Z (take i B)) (take_all i A (omega arith)) ∙ ap (bytes_eq A) (take_all i B (omega arith))
+    let first : iter_rest (zip_first c.into_iter-x-iterator.result) ≡ A = search rules in
+    let second : iter_rest (zip_second c.into_iter-x-iterator.result) ≡ B = search rules in
+    let z = zip_turn A B c.loop-x.yielded c.into_iter-x-iterator.result c.loop-x.x-iterator c.next.new.self c.next.result first second c.loop-x.yielded_by (c.in-Some.x, c.in-Some.y) c.in-Some.is c.next.ensures.steps in
+    let x = z.2 0 in
+    let y = z.3 0 in
+    let l = length-append c.loop-x.yielded ((c.in-Some.x, c.in-Some.y) ∷ []) in
+    let e = same_more A B (length c.loop-x.yielded) c.loop-x.differ z.0 z.1 c.loop-x.invariant in
+    cc

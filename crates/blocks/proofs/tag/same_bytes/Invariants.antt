@@ -1,7 +1,7 @@
-use Rattle.std.proofs.Common.{◌≡◌, eqb, take}
+use Rattle.std.proofs.Common.{◌≡◌, eqb, length, take}
 use Rattle.std.specs.Str.{bytes_eq}
 use Rattle.blocks.proofs.tag.same_bytes.Given as goal
 
 -- nothing differs so far exactly where the fronts are the same
-abbrev pub invariant-loop-i : goal.invariant-loop-i
-invariant-loop-i l = eqb l.differ 0 ≡ bytes_eq (take l.i l.a) (take l.i l.b)
+abbrev pub invariant-loop-x : goal.invariant-loop-x
+invariant-loop-x l = eqb l.differ 0 ≡ bytes_eq (take (length l.yielded) l.a) (take (length l.yielded) l.b)

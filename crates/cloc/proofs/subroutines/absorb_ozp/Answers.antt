@@ -1,4 +1,4 @@
-use Rattle.std.proofs.Common.{◌≡◌, ◌-◌, eqb, length, drop, Ok, ap, ◌∙◌, arith}
+use Rattle.std.proofs.Common.{◌≡◌, ◌-◌, length, drop, ap, ◌∙◌, arith}
 use Rattle.blocks.specs.Blocks.{◌⊕◌, blocks, front, last}
 use Rattle.blocks.specs.Chain.{chain}
 use Rattle.blocks.specs.Pads.{ozp}
@@ -15,8 +15,8 @@ overflow_sub-text g c =
     let m : c.in_ok-n.n ≡ length (last (blocks b T)) = cc in
     omega (arith, (last_drop b T hb).0)
 
-pub returns : goal.returns
-returns g c =
+pub returns-clause-state : goal.returns-clause-state
+returns-clause-state g c =
     let b = g.C.Cipher.width c.args.cipher.now in
     let E = g.C.Cipher.E c.args.cipher.now in
     let hb = (width_bounds b (g.met.C.Cipher.widths c.args.cipher.now)).0 in
@@ -26,10 +26,5 @@ returns g c =
     let m : c.in_ok-n.n ≡ length (last (blocks b T)) = cc in
     let l = c.split_at.ensures.back ∙ ap (λ k. drop (length T - k) T) m ∙ (last_drop b T hb).1 in
     let s : length S ≡ b = c.absorb_front.auto.state ∙ c.requires.width in
-    record {
-      answers = ap (λ k. Ok (eqb k (length c.xor_ozp.new.block))) m ∙ ap (λ k. Ok (eqb (length (last (blocks b T))) k)) (c.xor_ozp.auto.block ∙ s);
-      state =
-          c.xor_ozp.ensures ∙ ap (λ k. S ⊕ ozp k c.split_at.result.1.now) s ∙ ap (λ Z. Z ⊕ ozp b c.split_at.result.1.now) c.absorb_front.ensures.state
-          ∙ ap (λ Z. chain E c.args.state.now (front (blocks b T)) ⊕ ozp b Z) l;
-      ran = c.absorb_front.ensures.ran;
-    }
+    c.xor_ozp.ensures ∙ ap (λ k. S ⊕ ozp k c.split_at.result.1.now) s ∙ ap (λ Z. Z ⊕ ozp b c.split_at.result.1.now) c.absorb_front.ensures.state
+    ∙ ap (λ Z. chain E c.args.state.now (front (blocks b T)) ⊕ ozp b Z) l

@@ -1,5 +1,5 @@
 use Rattle.std.proofs.Common.{◌≡◌, ◌+◌, ◌<◌, ◌≤◌, min, [], ◌∷◌, ◌++◌, map, length, get_or, take, drop, set, sym, ap, ◌∙◌, subst, arith}
-use Rattle.std.proofs.lemmas.List.{take_more_set, take_more, drop-set-lt, map_push}
+use Rattle.std.proofs.lemmas.List.{take_more_set, take_more, take_all, drop-set-lt, map_push, length-take-le}
 use Rattle.std.proofs.lemmas.List.Sums.{fold_push}
 use Rattle.exchange.specs.declared.records.ReceiveCall.{ReceiveCall}
 use Rattle.exchange.specs.declared.records.ReceiveCall.TheVariants.{Open}
@@ -11,14 +11,15 @@ use Rattle.exchange.proofs.Lines.{leads_more, lined_more, fits_same, reach_push,
 use Rattle.exchange.proofs.receives.receive_all.Goals as goal
 
 none : ReceiveCall
-none = Open (record { tube_at = 0; tube_len = 0; room = 0; work = 0 })
+none = Open (record { tube = record { at = 0; len = 0 }; room = 0; work = 0 })
 
 pub loop-i-preserved : goal.loop-i-preserved
 unfolding none
 loop-i-preserved g c =
     let m = g.M.Mode.meaning c.args.mode.now in
     let i = c.loop-i.i in
-    let calls = c.args.calls.now in
+    let n = c.min-n.result in
+    let calls = take n c.args.calls.now in
     let lines = c.loop-i.lines in
     let L = take i lines in
     let call = get_or calls i none in
@@ -31,11 +32,11 @@ loop-i-preserved g c =
     let K = length c.args.work.now in
     let held = holds c.args.end in
     let used = c.loop-i.used in
-    let lc : i < length calls = omega (arith, c.min-n.ensures) in
-    let ll : i < length lines = omega (arith, c.min-n.ensures, c.loop-i.auto.lines) in
+    let lc : i < length calls = c.loop-i-test.true in
+    let ll : i < length lines = omega (arith, c.min-n.ensures, c.loop-i.auto.lines, length-take-le n c.args.calls.now (omega (arith, c.min-n.ensures))) in
     let items : take (i + 1) (set lines i x) ≡ L ++ x ∷ [] = take_more_set lines i x ll in
     let fit = fits_same W O (length c.loop-i.out) K (length c.loop-i.work) (held_by held L) (holds c.loop-i.end) (reach 0 L) used call o c.loop-i.auto.out c.loop-i.auto.work inv.3 inv.5 did.lined in
-    let size = c.size_of-used.ensures in (
+    let size = c.length-used.ensures in (
       did.same ∙ inv.0,
       ap (map call_in) items ∙ map_push call_in L x ∙ ap (λ l. l ++ call ∷ []) inv.1 ∙ sym (take_more calls i none lc),
       subst (λ l. LeadsAll m c.args.wire.now c.step-next.new.out (state_in c.args.end) (g.M.Allowance.remaining c.args.mode.now) l (state_in c.step-next.result.0) (g.M.Allowance.remaining c.step-next.new.mode)) (sym items)
@@ -59,12 +60,13 @@ returns g c =
     let i = c.loop-i.i in
     let calls = c.args.calls.now in
     let lines = c.loop-i.lines in
-    let e : i ≡ min (length calls) (length c.args.lines.now) = omega (arith, c.min-n.ensures, c.loop-i.auto.i-end, c.loop-i-test.false) in
+    let n = c.min-n.result in
+    let e : i ≡ min (length calls) (length c.args.lines.now) = omega (arith, c.min-n.ensures, c.loop-i.auto.i-end, c.loop-i-test.false, length-take-le n calls (omega (arith, c.min-n.ensures))) in
     let q : take i lines ≡ take (length calls) lines = take_min i lines (length calls) (omega (arith, e, c.loop-i.auto.lines)) in
     let r : c.loop-i.used ≡ reach 0 (take (length calls) lines) = inv.5 ∙ ap (reach 0) q in
     record {
       same = inv.0;
-      asked = ap (map call_in) (sym q) ∙ inv.1 ∙ take_min i calls (length c.args.lines.now) e;
+      asked = ap (map call_in) (sym q) ∙ inv.1 ∙ take_all i (take n calls) (omega (arith, c.loop-i-test.false)) ∙ take_min n calls (length c.args.lines.now) c.min-n.ensures;
       runs = subst (λ l. LeadsAll (g.M.Mode.meaning c.args.mode.now) c.args.wire.now c.loop-i.out (state_in c.args.end) (g.M.Allowance.remaining c.args.mode.now) l (state_in c.loop-i.end) (g.M.Allowance.remaining c.loop-i.mode)) q inv.2;
       lined = subst (λ l. Lined (length c.args.wire.now) (length c.args.out.now) (length c.args.work.now) (holds c.args.end) 0 l) q inv.4;
       kept = sym (drop_min i lines (length calls) (e ∙ ap (min (length calls)) (sym c.loop-i.auto.lines))) ∙ inv.7 ∙ drop_min i c.args.lines.now (length calls) e;

@@ -1,15 +1,15 @@
-use Rattle.std.proofs.Common.{◌≡◌, ◌+◌, ◌-◌, ◌<◌, min, List, [], ◌∷◌, ◌++◌, length, get_or, take, drop, sym, ap, ◌∙◌, subst, arith}
-use Rattle.std.proofs.lemmas.List.{take_more_set, take-append-drop, drop-set-lt}
+use Rattle.std.proofs.Common.{◌≡◌, ◌+◌, ◌-◌, ◌<◌, [], ◌∷◌, ◌++◌, length, get_or, take, sym, ap, ◌∙◌, subst, arith}
+use Rattle.std.proofs.lemmas.List.{take_more_set, drop-set-lt, length-take-le}
 use Rattle.std.proofs.lemmas.List.Sums.{fold_more, fold_push}
 use Rattle.exchange.specs.declared.records.SendLine.{SendLine}
 use Rattle.exchange.specs.declared.records.SendOrder.{SendOrder}
-use Rattle.exchange.specs.Sends.{lies, label_of, contents_of, verdict_to, send_all, bytes_of, ordered, Sends, send_work, work_by, work_after_sends}
-use Rattle.exchange.proofs.Cuts.{take_min, drop_min, drop_past}
+use Rattle.exchange.specs.Sends.{lies, label_of, contents_of, verdict_to, send_all, bytes_of, ordered, send_work, work_by, work_after_sends}
+use Rattle.exchange.proofs.Cuts.{drop_past}
 use Rattle.exchange.proofs.Orders.{After, after, same_outcome, turn_next, turn_left, turn_used, turn_wire}
 use Rattle.exchange.proofs.sends.send_all.Goals as goal
 
 none : SendOrder
-none = record { label_at = 0; label_len = 0; contents_at = 0; contents_len = 0; room = 0; work = 0 }
+none = record { label = record { at = 0; len = 0 }; contents = record { at = 0; len = 0 }; room = 0; work = 0 }
 
 pub loop-i-preserved : goal.loop-i-preserved
 unfolding none
@@ -25,14 +25,15 @@ loop-i-preserved g c =
     let W = length c.args.wire.now in
     let K = length c.args.work.now in
     let i = c.loop-i.i in
-    let orders = c.args.orders.now in
+    let n = c.min-n.result in
+    let orders = take n c.args.orders.now in
     let o = get_or orders i none in
     let used = c.loop-i.used in
     let inv = c.loop-i.invariant in
     let P = send_all m s bytes W K c.args.end.now.next left (take i orders) in
     let Q = send_all m s bytes W K c.args.end.now.next left (take (i + 1) orders) in
-    let lt : i < length orders = omega (arith, c.min-n.ensures) in
-    let ll : i < length c.loop-i.lines = omega (arith, c.min-n.ensures, c.loop-i.auto.lines) in
+    let lt : i < length orders = c.loop-i-test.true in
+    let ll : i < length c.loop-i.lines = omega (arith, c.min-n.ensures, c.loop-i.auto.lines, length-take-le n c.args.orders.now (omega (arith, c.min-n.ensures))) in
     let VL = verdict_to m' left' s' k' bytes o in
     let VP = verdict_to m P.left s P.next bytes o in
     let bL = lies (length bytes) (length c.loop-i.wire - used) (length c.loop-i.work) o in
@@ -49,8 +50,8 @@ loop-i-preserved g c =
     (sym (fold_more (λ q x. ordered m s bytes W K q x) (record { next = c.args.end.now.next; left = left; tubes = []; lines = [] }) orders i none lt))
     (after bP VP P o (label_of bytes o) (contents_of bytes o)) in
     let did = c.send_one-outcome.ensures in
-    let len = c.length_of-used.result in
-    let el = c.length_of-used.ensures ∙ did.long in
+    let len = c.length-used.result in
+    let el = c.length-used.ensures ∙ did.long in
     let x : SendLine = record { order = o; outcome = c.send_one-outcome.result } in
     let items = take_more_set c.loop-i.lines i x ll in (
       did.same ∙ inv.0,
@@ -62,27 +63,7 @@ loop-i-preserved g c =
       items ∙ ap (λ l. l ++ x ∷ []) inv.6
           ∙ ap (λ r. P.lines ++ (record { order = o; outcome = r } ∷ [])) (did.came ∙ same_outcome bL bP VL VP eb ev) ∙ sym h.lines,
       drop-set-lt (i + 1) c.loop-i.lines i x (omega arith) ∙ drop_past i c.loop-i.lines c.args.lines.now inv.7,
-      omega (arith, c.length_of-used.ensures, did.fits, c.loop-i.auto.wire),
+      omega (arith, c.length-used.ensures, did.fits, c.loop-i.auto.wire),
       did.work ∙ ap (work_by c.send_one-outcome.result o.work) inv.9
           ∙ sym (fold_push (λ w (y : SendLine). send_work w y) c.args.work.now (take i c.loop-i.lines) x) ∙ ap (λ l. work_after_sends l c.args.work.now) (sym items),
     )
-
-pub returns : goal.returns
-returns g c =
-    let inv = c.loop-i.invariant in
-    let orders = c.args.orders.now in
-    let lines = c.args.lines.now in
-    let i = c.loop-i.i in
-    let e : i ≡ min (length orders) (length lines) = omega (arith, c.min-n.ensures, c.loop-i.auto.i-end, c.loop-i-test.false) in
-    let t = take_min i orders (length lines) e in
-    let F : List SendOrder → Sends = λ x. send_all (g.S.Mode.meaning c.args.mode.now) c.args.end.now.set c.args.bytes.now (length c.args.wire.now) (length c.args.work.now) c.args.end.now.next (g.S.Allowance.remaining c.args.mode.now) x in
-    record {
-      wire = inv.5 ∙ ap (λ n. bytes_of (F (take i orders)).tubes ++ drop n c.args.wire.now) inv.4
-          ∙ ap (λ x. bytes_of (F x).tubes ++ drop (length (bytes_of (F x).tubes)) c.args.wire.now) t;
-      lines = sym (take-append-drop i c.loop-i.lines) ∙ ap (λ x. x ++ drop i c.loop-i.lines) inv.6
-          ∙ ap (λ x. (F (take i orders)).lines ++ x) (inv.7 ∙ drop_min i lines (length orders) e)
-          ∙ ap (λ x. (F x).lines ++ drop (length orders) lines) t;
-      left = inv.3 ∙ ap (λ x. (F x).left) t;
-      work = inv.9 ∙ ap (λ l. work_after_sends l c.args.work.now) (inv.6 ∙ ap (λ x. (F x).lines) t);
-      same = inv.0;
-    }

@@ -1,28 +1,12 @@
-use Rattle.std.proofs.Common.{◌≡◌, ◌+◌, ◌-◌, ◌≤◌, true, false, cond, [], length, take, drop, sym, refl, ap, ◌∙◌, subst, arith}
+use Rattle.std.proofs.Common.{◌≡◌, ◌+◌, ◌-◌, ◌≤◌, true, cond, [], length, take, drop, sym, ap, ◌∙◌, subst, arith}
 use borrow.Rule.Slice.PartMut.{put_mid}
-use Rattle.std.proofs.lemmas.Bool.{cond-true, cond-false}
+use Rattle.std.proofs.lemmas.Bool.{cond-true}
 use Rattle.tube.specs.Put.{Laid}
 use Rattle.sender.specs.Send.{send_verdict, send_answer, send_out, send_left, send_next}
-use Rattle.exchange.specs.declared.records.SendOutcome.TheVariants.{Passed}
 use Rattle.exchange.specs.Sends.{lies, label_of, contents_of, verdict_to, outcome_of, said_of, tube_in, len_of, work_by}
 use Rattle.exchange.proofs.Cuts.{part_long, front_long, front_back}
-use Rattle.exchange.proofs.Orders.{laid_sent, sent_long, sent_room, laid_passed, long_passed, work_called}
+use Rattle.exchange.proofs.Orders.{laid_sent, sent_long, sent_room, work_called}
 use Rattle.exchange.proofs.sends.send_one.Goals as goal
-
-pub returns-then-not-order_lies : goal.returns-then-not-order_lies
-returns-then-not-order_lies g c =
-    let f : lies (length c.args.bytes.now) (length c.args.wire.now - c.args.used) (length c.args.work.now) c.args.order ≡ false = sym c.order_lies.ensures.is ∙ c.if-not-order_lies.true in
-    record {
-      came = sym (cond-false _ _ Passed f);
-      wire = laid_passed _ _ c.args.used c.args.wire.now f;
-      left = sym (cond-false _ _ _ f);
-      next = sym (cond-false _ _ _ f);
-      long = long_passed _ _ f;
-      fits = omega arith;
-      work = refl;
-      kept = refl;
-      same = refl;
-    }
 
 pub returns : goal.returns
 returns g c =
@@ -46,13 +30,13 @@ returns g c =
     let lw : length part ≡ o.room = part_long used o.room wire room in
     let lk : length (take (o.work - 0) work) ≡ o.work = front_long o.work work h.3 in
     let V = verdict_to m left s k bytes o in
-    let A' = c.bytes_at-label.result.now in
-    let M' = c.bytes_at-contents.result.now in
+    let A' = c.part-label.result.now in
+    let M' = c.part-contents.result.now in
     let ev : send_verdict m left s k A' M' (length part) (length (take (o.work - 0) work)) ≡ V =
-    ap (λ x. send_verdict m left s k x M' (length part) (length (take (o.work - 0) work))) c.bytes_at-label.ensures
-    ∙ ap (λ x. send_verdict m left s k A x (length part) (length (take (o.work - 0) work))) c.bytes_at-contents.ensures
+    ap (λ x. send_verdict m left s k x M' (length part) (length (take (o.work - 0) work))) c.part-label.ensures
+    ∙ ap (λ x. send_verdict m left s k A x (length part) (length (take (o.work - 0) work))) c.part-contents.ensures
     ∙ ap (λ x. send_verdict m left s k A M x (length (take (o.work - 0) work))) lw ∙ ap (λ x. send_verdict m left s k A M o.room x) lk in
-    let ecame : c.said.result ≡ outcome_of V = c.said.ensures ∙ ap said_of (c.send-answer.ensures.answers ∙ ap send_answer ev) in
+    let ecame : c.from.result ≡ outcome_of V = c.from.ensures ∙ ap said_of (c.send-answer.ensures.answers ∙ ap send_answer ev) in
     let etube : tube_in V ≡ cond b (tube_in V) [] = sym (cond-true b _ _ t) in
     let laid = laid_sent V used (used + o.room - used) wire c.send-answer.new.out (omega arith) (c.send-answer.ensures.out ∙ ap (λ v. send_out v part) ev) (c.send-answer.auto.out ∙ lw ∙ sym er) in
     record {
@@ -61,7 +45,7 @@ returns g c =
       left = c.send-answer.ensures.left ∙ ap (λ v. send_left v left) ev ∙ sym (cond-true b _ _ t);
       next = c.send-answer.ensures.next ∙ ap (λ v. send_next v k) ev ∙ sym (cond-true b _ _ t);
       long = ap len_of ecame ∙ sent_long m left s k A M o.room o.work (g.met.S.Mode.lawful c.args.mode.now) ∙ ap length etube;
-      fits = let q : len_of c.said.result ≤ o.room = subst (λ x. x ≤ o.room) (sym (ap len_of ecame)) (sent_room m left s k A M o.room o.work) in omega arith;
+      fits = let q : len_of c.from.result ≤ o.room = subst (λ x. x ≤ o.room) (sym (ap len_of ecame)) (sent_room m left s k A M o.room o.work) in omega arith;
       work = front_back o.work work c.send-answer.new.work c.send-answer.ensures.work ∙ work_called V o.work work ∙ ap (λ x. work_by x o.work work) (sym ecame);
       kept = c.send-answer.ensures.kept;
       same = c.send-answer.ensures.same;

@@ -16,6 +16,6 @@ placed n = 0x0011_0010_0100_0101 + (apart (rc n / 8) * (2 ^ 1 + 2 ^ 33) + apart 
 pub returns : goal.returns
 unfolding rc lane
 returns c =
-    let n = c.args.n in
+    let n = c.args.n % 48 in
     ap cells (get_or-map-range_with_len placed 0 48 n n 0 (omega arith) (omega arith))
     ∙ everywhere [] 48 (λ i. cells (placed i)) (constants 80) refl n (omega arith)

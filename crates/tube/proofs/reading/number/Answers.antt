@@ -1,8 +1,6 @@
 use Rattle.std.proofs.Common.{◌≡◌, ℕ, ◌+◌, ◌*◌, ◌^◌, ◌<◌, ◌≤◌, get_or, sym, ap, ◌∙◌, arith, pow-add}
 use native.Mathlib.Nat.{pow-le-pow_right}
-use Rattle.std.proofs.lemmas.List.{take_all}
 use Rattle.std.proofs.lemmas.List.Sums.{fold_more}
-use Rattle.tube.specs.Read.{value}
 use Rattle.tube.proofs.reading.number.Goals as goal
 
 -- eight bits more
@@ -23,6 +21,3 @@ loop-b-preserved c = (
   ap (λ x. x * 256 + get_or c.args.bytes.now c.loop-b.b-index 0) c.loop-b.invariant.0 ∙ sym (fold_more (λ a x. a * 256 + x) 0 c.args.bytes.now c.loop-b.b-index 0 c.loop-b-test.true),
   omega (arith, c.loop-b.invariant.1, eight c.loop-b.b-index),
 )
-
-pub returns : goal.returns
-returns c = c.loop-b.invariant.0 ∙ ap value (take_all c.loop-b.b-index c.args.bytes.now c.loop-b-test.false)

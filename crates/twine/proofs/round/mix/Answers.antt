@@ -10,6 +10,9 @@ mixed_small b h = let z : mixed b - 15 ≡ 0 = everywhere 0 256 (λ k. mixed k -
 
 pub returns : goal.returns
 unfolding mixed
-returns c =
-    let e = get_or-map-range_with_len mixed 0 256 c.args.byte c.args.byte 0 (omega arith) (omega arith) in
-    record { is = e; small = subst (λ t. t < 16) (sym e) (mixed_small c.args.byte (omega arith)) }
+returns c = get_or-map-range_with_len mixed 0 256 c.args.byte c.args.byte 0 (omega arith) (omega arith)
+
+pub invariant_of-result : goal.invariant_of-result
+unfolding mixed
+invariant_of-result c =
+    record { small = subst (λ t. t < 16) (sym (get_or-map-range_with_len mixed 0 256 c.args.byte c.args.byte 0 (omega arith) (omega arith))) (mixed_small c.args.byte (omega arith)) }

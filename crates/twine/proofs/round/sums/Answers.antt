@@ -3,16 +3,16 @@ use Rattle.bits.proofs.Listed.{AllBelow, below_at, eight_eq}
 use Rattle.twine.proofs.Placing.{sums_are}
 use Rattle.twine.proofs.round.sums.Goals as goal
 
+pub invariant_of-result : goal.invariant_of-result
+invariant_of-result c =
+    let m : List ℕ =
+    c.mix.result.value ∷ c.mix-2.result.value ∷ c.mix-3.result.value ∷ c.mix-4.result.value ∷ c.mix-5.result.value ∷ c.mix-6.result.value ∷ c.mix-7.result.value ∷ c.mix-8.result.value ∷ [] in
+    let small : AllBelow 16 m =
+    (c.mix.result.small, (c.mix-2.result.small, (c.mix-3.result.small, (c.mix-4.result.small, (c.mix-5.result.small, (c.mix-6.result.small, (c.mix-7.result.small, (c.mix-8.result.small, tt)))))))) in
+    record { small = below_at 16 (omega arith) m small }
+
 pub returns : goal.returns
 returns c =
-    let m : List ℕ =
-    c.mix.result ∷ c.mix-2.result ∷ c.mix-3.result ∷ c.mix-4.result ∷ c.mix-5.result ∷ c.mix-6.result ∷ c.mix-7.result ∷ c.mix-8.result ∷ [] in
-    let right : AllBelow 16 (c.mix-5.result ∷ c.mix-6.result ∷ c.mix-7.result ∷ c.mix-8.result ∷ []) =
-    (c.mix-5.ensures.small, (c.mix-6.ensures.small, (c.mix-7.ensures.small, (c.mix-8.ensures.small, tt)))) in
-    let small : AllBelow 16 m = (c.mix.ensures.small, (c.mix-2.ensures.small, (c.mix-3.ensures.small, (c.mix-4.ensures.small, right)))) in
-    record {
-      are =
-          eight_eq c.mix.ensures.is c.mix-2.ensures.is c.mix-3.ensures.is c.mix-4.ensures.is c.mix-5.ensures.is c.mix-6.ensures.is c.mix-7.ensures.is c.mix-8.ensures.is
-          ∙ sums_are c.args.x c.args.key c.requires c.to_be_bytes-b.result c.to_be_bytes-b.ensures;
-      small = below_at 16 (omega arith) m small;
-    }
+    let key = c.args.key.now in
+    eight_eq c.mix.ensures c.mix-2.ensures c.mix-3.ensures c.mix-4.ensures c.mix-5.ensures c.mix-6.ensures c.mix-7.ensures c.mix-8.ensures
+    ∙ sums_are c.args.x key.bits key.spaced c.to_be_bytes-b.result c.to_be_bytes-b.ensures

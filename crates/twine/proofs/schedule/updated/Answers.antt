@@ -1,9 +1,14 @@
+use Rattle.std.proofs.Common.{rules}
 use Rattle.twine.proofs.Keys.{update_is, update_small}
 use Rattle.twine.proofs.schedule.updated.Goals as goal
 
-pub returns : goal.returns
-returns c =
+pub invariant_of-result : goal.invariant_of-result
+invariant_of-result g c =
+    let wk = c.args.register.now in
     record {
-      is = update_is c.args.wk.now c.args.con c.substitute.result c.substitute-2.result c.told-wk c.substitute.ensures.is c.substitute-2.ensures.is;
-      small = update_small c.args.wk.now c.args.con c.substitute.result c.substitute-2.result c.requires.0 c.requires.1 c.substitute.ensures.small c.substitute-2.ensures.small;
+      small = update_small wk.values c.args.constant c.substitute-s.result.value c.substitute-t.result.value wk.small c.requires c.substitute-s.result.small c.substitute-t.result.small;
     }
+
+pub returns : goal.returns
+returns g c =
+    update_is c.args.register.now.values c.args.constant c.substitute-s.result.value c.substitute-t.result.value (search rules) c.substitute-s.ensures c.substitute-t.ensures

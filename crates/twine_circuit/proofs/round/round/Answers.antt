@@ -5,4 +5,4 @@ use Rattle.twine_circuit.proofs.round.round.Goals as goal
 
 pub returns : goal.returns
 returns c =
-    round_is c.args.x c.args.key c.sub_lanes.result _ (omega arith) (omega arith) c.sub_lanes.ensures (ap₂ bit_xor c.turned.ensures c.crossed.ensures)
+    round_is c.args.x c.args.key.lanes c.sub_lanes.result _ (omega arith) (omega arith) c.sub_lanes.ensures (ap₂ bit_xor c.turned.ensures c.crossed.ensures)

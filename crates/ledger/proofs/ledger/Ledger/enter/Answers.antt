@@ -3,14 +3,11 @@ use Rattle.ledger.specs.Marks.{bit}
 use Rattle.ledger.proofs.Kept.{marked_top, marked_below, marked_tells, by_history, open_near, open_positive}
 use Rattle.ledger.proofs.ledger.Ledger.enter.Goals as goal
 
-pub entered-marks-requires : goal.entered-marks-requires
-entered-marks-requires c = open_near c.args.self.high c.args.self.marks c.args.number c.requires.1
-
 pub invariant_of-result : goal.invariant_of-result
 invariant_of-result c = record {
   order = (omega arith, omega arith);
-  top = subst (λ m. bit m 0 ≡ 1) (sym c.entered-marks.ensures) (marked_top c.args.self.high c.args.self.marks c.args.number c.args.self.top);
-  below = λ i l b. subst (λ m. bit m i ≡ 1) (sym c.entered-marks.ensures)
+  top = subst (λ m. bit m 0 ≡ 1) (sym c.marked.ensures) (marked_top c.args.self.high c.args.self.marks c.args.number c.args.self.top);
+  below = λ i l b. subst (λ m. bit m i ≡ 1) (sym c.marked.ensures)
       (marked_below c.args.self.floor c.args.self.high c.args.self.marks c.args.number c.args.self.order.0 c.args.self.below i l (omega arith));
 }
 
@@ -25,8 +22,8 @@ returns c =
       may = c.requires;
       floor = refl;
       high = c.max.ensures;
-      marks = c.entered-marks.ensures;
+      marks = c.marked.ensures;
       limit = refl;
       stood = λ f ks r. sym (by_history high marks f ks r k) ∙ c.requires.1;
-      history = λ f ks r. simp (c.max.ensures, c.entered-marks.ensures) (marked_tells high marks f k ks r pos near);
+      history = λ f ks r. simp (c.max.ensures, c.marked.ensures) (marked_tells high marks f k ks r pos near);
     }

@@ -9,7 +9,7 @@ pub returns : goal.returns
 returns c =
     let h = c.args.self in
     let e = c.enter.ensures in
-    let l : Listening = record { set = h.set; ledger = c.enter.result; limit = e.limit ∙ h.limit } in
+    let l : Listening = record { set = h.end.set; ledger = c.enter.result; limit = e.limit ∙ h.end.limit } in
     record {
       did = record { set = refl; entered = e };
       runs = λ m left s floor start past r. signed past h _ left r (record { set = refl; entered = e });

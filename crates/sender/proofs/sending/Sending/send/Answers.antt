@@ -1,32 +1,10 @@
-use Rattle.std.proofs.Common.{◌≡◌, ◌++◌, length, drop, is_err, Ok, Err, sym, refl, ap, ◌∙◌, rules}
-use Rattle.std.proofs.lemmas.Result.{err_from_is_err_and, IfOk-from_err}
+use Rattle.std.proofs.Common.{◌≡◌, ◌++◌, length, drop, Ok, sym, refl, ap, ◌∙◌, rules}
 use Rattle.tube.specs.Write.{nonce_of}
 use Rattle.tube.proofs.Numbers.{nonce_length}
 use Rattle.sender.specs.Send.{send_answer, send_out, send_left, send_next, sealed_tube, tube_size}
 use Rattle.sender.proofs.Tubes.{carries, sealed_length}
-use Rattle.sender.proofs.Verdicts.{same_ok, verdict_sent, verdict_unsent}
+use Rattle.sender.proofs.Verdicts.{same_ok, verdict_sent}
 use Rattle.sender.proofs.sending.Sending.send.Goals as goal
-
-pub returns-in_err-check : goal.returns-in_err-check
-returns-in_err-check g c =
-    let m = g.M.Mode.meaning c.args.mode.now in
-    let left = g.M.Allowance.remaining c.args.mode.now in
-    let k = c.args.self.now.next in
-    let out = c.args.out.now in
-    let q = err_from_is_err_and c.from_residual-in_err-check.result c.from_residual-in_err-check.ensures.1 in
-    let w : length c.args.work.now ≡ 64 = search rules in
-    let v = verdict_unsent m left c.args.self.now.set k c.args.label.now c.args.contents.now (length out) (length c.args.work.now) w
-    c.in_err-check.field-0.0 c.in_err-check.ensures.answers in
-    record {
-      answers = q.1 ∙ ap Err q.2 ∙ ap send_answer (sym v);
-      out = ap (λ y. send_out y out) (sym v);
-      left = ap (λ y. send_left y left) (sym v);
-      next = ap (λ y. send_next y k) (sym v);
-      kept = refl;
-      work = search rules;
-      same = refl;
-      carries = IfOk-from_err _ _ (ap is_err q.1);
-    }
 
 pub returns : goal.returns
 returns g c =

@@ -5,8 +5,8 @@ use Rattle.twine_circuit.specs.Halves.{slot}
 use Rattle.twine_circuit.proofs.Packing.{eight_small}
 use Rattle.twine_circuit.proofs.halves.Halves.of_block.Goals as goal
 
-pub packed-requires : goal.packed-requires
-packed-requires c = eight_small (omega arith) (omega arith) (omega arith) (omega arith) (omega arith) (omega arith) (omega arith) (omega arith)
+pub invariant_of-packed : goal.invariant_of-packed
+invariant_of-packed c = record { small = eight_small (omega arith) (omega arith) (omega arith) (omega arith) (omega arith) (omega arith) (omega arith) (omega arith) }
 
 pub returns : goal.returns
 unfolding nibbles

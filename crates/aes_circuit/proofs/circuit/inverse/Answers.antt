@@ -1,5 +1,0 @@
-use Rattle.std.proofs.Common.{refl}
-use Rattle.aes_circuit.proofs.circuit.inverse.Goals as goal
-
-pub returns : goal.returns
-returns c = refl

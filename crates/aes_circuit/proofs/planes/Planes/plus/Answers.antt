@@ -1,5 +1,0 @@
-use Rattle.aes_circuit.proofs.PlaneSteps.{plus_is}
-use Rattle.aes_circuit.proofs.planes.Planes.plus.Goals as goal
-
-pub returns : goal.returns
-returns c = plus_is c.args.self.even c.args.self.odd c.args.other.even c.args.other.odd

@@ -1,6 +1,0 @@
-use Rattle.std.proofs.Common.{lit<}
-use Rattle.present.proofs.SBoxes.{behind, fit_1}
-use Rattle.present.proofs.layers.sboxes_1_apart.Goals as goal
-
-pub returns : goal.returns
-returns c = behind 0 1 0x1111_1111_1111_1111 fit_1 (lit< tt) c.args.x c.sboxes.result c.sboxes.ensures

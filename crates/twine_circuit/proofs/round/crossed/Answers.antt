@@ -1,5 +1,0 @@
-use Rattle.std.proofs.Common.{refl}
-use Rattle.twine_circuit.proofs.round.crossed.Goals as goal
-
-pub returns : goal.returns
-returns c = refl
