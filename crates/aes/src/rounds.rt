@@ -1,5 +1,5 @@
 // The state as four columns, each a word; and its rounds.
-ghost use Rattle.std.specs.Prelude.{◌≡◌, length, slice_index};
+ghost use Rattle.std.specs.Prelude.{◌≡◌, length};
 ghost use Rattle.aes.specs.Field.{◌⊕◌};
 ghost use Rattle.aes.specs.Sbox.{S};
 ghost use Rattle.aes.specs.Fips197.{pack, byte, state_of};

@@ -1,7 +1,6 @@
 // The S-box; and SubBytes with MixColumns by tables. The tables stand below.
 ghost use Rattle.std.specs.Prelude.{◌≡◌};
 ghost use Rattle.aes.specs.Sbox.{S, AffineOfInverse};
-ghost use Rattle.aes.specs.Fips197.{SubWord};
 ghost use Rattle.aes.specs.Tables.{te0, te1, te2, te3};
 
 use crate::rounds::Columns;
@@ -23,7 +22,8 @@ impl SubWords for Columns {
 }
 
 // What byte 0 of a column adds to the column after SubBytes and MixColumns; te1 to te3 are the same of bytes 1 to 3.
-// Kept: the words of T1 to T3 are those of T0 turned, but with that turn at each look-up a block takes 1.75 of C, where 1.1 is the bar.
+// Kept: the words of T1 to T3 are those of T0 turned, but with that turn at each look-up a block takes 1.6 times as long, and it is the time
+// of a block that stands furthest from what is aimed at.
 pub(crate) fn te0(byte: u8) -> u32
     ensures { result ≡ te0 byte }
 {

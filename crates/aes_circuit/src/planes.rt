@@ -1,10 +1,9 @@
 // The state on bit planes: no step reads memory at a secret place or branches on a secret.
-ghost use Rattle.std.specs.Prelude.{◌≡◌, ◌<◌, length};
+ghost use Rattle.std.specs.Prelude.{◌≡◌, ◌<◌};
 ghost use Rattle.bits.specs.Moves.{swap};
 ghost use Rattle.bits.specs.Shifts.{union};
 ghost use Rattle.bits.specs.Swaps.{swaps};
 ghost use Rattle.aes.specs.Fips197.{SubBytes, ShiftRows, MixColumns};
-ghost use Rattle.aes.specs.Rounds.{plus};
 ghost use Rattle.aes_circuit.specs.Planes.{inward, outward, shifted, next, second, packed, bytes, bytes_of, rows_on, doubled};
 
 use crate::circuit::sboxes;

@@ -1,15 +1,15 @@
 // The steps of HASH and PRF. What runs the cipher hands its fault on; under what is required here there is none.
-ghost use Rattle.std.specs.Prelude.{◌≡◌, ℕ, ◌+◌, ◌-◌, ◌<◌, ◌≤◌, max, ◌⊎◌, List, [], ◌∷◌, length, if◌then◌else◌, Ok, Err};
+ghost use Rattle.std.specs.Prelude.{◌≡◌, ◌-◌, ◌<◌, ◌≤◌, ◌∷◌, length, if◌then◌else◌, Ok};
 ghost use Rattle.blocks.specs.Blocks.{◌⊕◌, parts, blocks, front, last};
 ghost use Rattle.blocks.specs.Chain.{chain};
 ghost use Rattle.blocks.specs.Pads.{ozp};
 ghost use Rattle.blocks.specs.Ran.{Runs};
 ghost use Rattle.blocks.specs.Words.{IsBlock, f1, f2, h};
-ghost use Rattle.cloc.specs.Cloc.{is_full, SH1, HASH, tag_block};
+ghost use Rattle.cloc.specs.Cloc.{is_full, SH1};
 
 use blocks::padding::{fix_zero, write_ozp, xor_nonce, xor_ozp};
 use blocks::steps::{absorb_front, run_one};
-use blocks::tweaks::{apply_f1, apply_f2, apply_g1, apply_h};
+use blocks::tweaks::{apply_f1, apply_f2, apply_h};
 use cipher::fault::CipherFault;
 use cipher::interface::{Allowance, Cipher};
 

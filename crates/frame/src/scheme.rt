@@ -11,7 +11,7 @@ use cipher::fault::CipherFault;
 use cipher::interface::{Allowance, Cipher};
 
 // A scheme is a HASH, by param, nonce and label, and a PRF, by the tag's length, V and the ciphertext, over a cipher of this width and
-// function E. Its ghost members after these two say how many runs they make, and how many a full call and one with a wrong tag.
+// function E. The four ghost members after these two say how many runs they make, and how many a full call and one with a wrong tag.
 pub trait Scheme {
     ghost code: { ℕ };
 
