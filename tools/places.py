@@ -114,28 +114,29 @@ def answers():
     return found
 
 
+# point, what it looks for, and a pattern of lines or a function that finds the places
 POINTS = [
-    ("1", "enums of this repository", lambda: lines(r"\benum \w+")),
-    ("1", "variants that hold a byte (a number for a kind or a refusal?)", lambda: lines(r"^\s+[A-Z]\w*\(u8\b.*\),$")),
-    ("1", "answers or parameters that are a bool (a flag?)", lambda: lines(r"-> (Result<)?bool|\w: bool\b")),
+    ("1", "enums of this repository", r"\benum \w+"),
+    ("1", "variants that hold a byte (a number for a kind or a refusal?)", r"^\s+[A-Z]\w*\(u8\b.*\),$"),
+    ("1", "answers or parameters that are a bool (a flag?)", r"-> (Result<)?bool|\w: bool\b"),
     ("2", "groups of functions whose bodies are the same but for names and numbers", twins),
-    ("3", "loops over a range, and `while`", lambda: lines(r"\bfor \w+ in [^{]*\.\.|\bwhile ")),
-    ("3", "counters by hand", lambda: lines(r"saturating_add\(1\)|\b(number|done|used|i|n) \+= ")),
-    ("4", "impls of Display, From, TryFrom, equality, order or copying", lambda: lines(r"^impl.*\b(Display|From<|TryFrom<|PartialEq|PartialOrd|Ord|Clone|Copy|Default|Hash)\b")),
-    ("4", "bytes put together or taken apart by hand", lambda: lines(r"\* 256\b|/ (256|65536|16777216)\b|% 256\b|from_(be|le)_bytes\(\[$")),
-    ("4", "matches that turn one answer into another", lambda: lines(r"^\s+(Ok\(\w*\)|Some\(\w+\)|Err\(_\)|None) => (Ok|Err|Some|None|return)\b")),
+    ("3", "loops over a range, and `while`", r"\bfor \w+ in [^{]*\.\.|\bwhile "),
+    ("3", "counters by hand", r"saturating_add\(1\)|\b(number|done|used|i|n) \+= "),
+    ("4", "impls of Display, From, TryFrom, equality, order or copying", r"^impl.*\b(Display|From<|TryFrom<|PartialEq|PartialOrd|Ord|Clone|Copy|Default|Hash)\b"),
+    ("4", "bytes put together or taken apart by hand", r"\* 256\b|/ (256|65536|16777216)\b|% 256\b|from_(be|le)_bytes\(\[$"),
+    ("4", "matches that turn one answer into another", r"^\s+(Ok\(\w*\)|Some\(\w+\)|Err\(_\)|None) => (Ok|Err|Some|None|return)\b"),
     ("5", "functions of six or more arguments", parameters),
     ("5", "the same fact required by three or more functions", facts),
-    ("5", "two facts in one `requires`", lambda: lines(r"^\s*requires.*\) × \(")),
-    ("6", "a place or a length as a number beside bytes", lambda: lines(r"\b\w*(_at|_len|at|len): usize")),
-    ("6", "buffers on the stack of which a part is used", lambda: lines(r"= \[0(u8)?; \d+\];$")),
-    ("6", "Vec fields, of which two may run side by side", lambda: lines(r"^\s+pub \w+: Vec<")),
-    ("7", "enums and parameters that choose a step, tables of functions", lambda: lines(r"enum \w*(Kind|Step|Which)\b|: fn\(|Kind::\w+\)")),
+    ("5", "two facts in one `requires`", r"^\s*requires.*\) × \("),
+    ("6", "a place or a length as a number beside bytes", r"\b\w*(_at|_len|at|len): usize"),
+    ("6", "buffers on the stack of which a part is used", r"= \[0(u8)?; \d+\];$"),
+    ("6", "Vec fields, of which two may run side by side", r"^\s+pub \w+: Vec<"),
+    ("7", "enums and parameters that choose a step, tables of functions", r"enum \w*(Kind|Step|Which)\b|: fn\(|Kind::\w+\)"),
     ("8", "answers in proofs/", answers),
 ]
 
 for point, what, find in POINTS:
-    found = find()
+    found = lines(find) if isinstance(find, str) else find()
     print(f"{point}  {len(found):4d}  {what}")
     if verbose and point != "8":
         for place in found:
