@@ -31,10 +31,10 @@ fn read_key<S: Schedule<K, B> + Drop, const K: usize, const B: usize>(
 // The cipher that this input names, under the key behind it.
 pub fn read_cipher(case: &mut Case, input: Input) -> Result<AnyCipher, CaseFault> {
     Ok(match case.text(input)? {
-        "AES-128" => Either::First(Either::First(read_key(case)?)),
-        "PRESENT-80" => Either::First(Either::Second(read_key(case)?)),
-        "LED-80" => Either::Second(Either::First(read_key(case)?)),
-        "TWINE-80" => Either::Second(Either::Second(read_key(case)?)),
+        "AES-128" => OneOf::First(read_key(case)?),
+        "PRESENT-80" => OneOf::Second(read_key(case)?),
+        "LED-80" => OneOf::Third(read_key(case)?),
+        "TWINE-80" => OneOf::Fourth(read_key(case)?),
         _ => return Err(CaseFault::Bad(input)),
     })
 }

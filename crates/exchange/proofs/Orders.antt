@@ -1,5 +1,5 @@
 -- The sends, order by order.
-use Rattle.std.proofs.Common.{◌≡◌, ℕ, ◌+◌, ◌≤◌, Bool, true, false, cond, List, [], ◌∷◌, ◌++◌, length, take, drop, Some, None, Option, sym, refl, ap, ◌∙◌, append_assoc, arith, length-append}
+use Rattle.std.proofs.Common.{◌≡◌, ℕ, ◌+◌, ◌-◌, ◌≤◌, Bool, true, false, cond, List, [], ◌∷◌, ◌++◌, length, take, drop, Some, None, fold, Option, sym, refl, ap, ◌∙◌, append_assoc, arith, length-append}
 use borrow.Rule.Slice.PartMut.{put_mid}
 use Rattle.std.proofs.lemmas.List.{append-nil}
 use Rattle.refusal.specs.Cause.{first, unless}
@@ -14,7 +14,7 @@ use Rattle.sender.proofs.Tubes.{sealed_length}
 use Rattle.sender.proofs.Verdicts.{accepted}
 use Rattle.exchange.specs.declared.records.SendOrder.{SendOrder}
 use Rattle.exchange.specs.declared.records.SendOutcome.TheVariants as outcome
-use Rattle.exchange.specs.Sends.{Sends, SentTube, added, passed_over, bytes_of, outcome_of, tube_in, len_of, work_by, lent_work}
+use Rattle.exchange.specs.Sends.{Sends, SentTube, added, passed_over, ordered, bytes_of, outcome_of, tube_in, len_of, lies, label_of, contents_of, verdict_to, work_by, lent_work}
 use Rattle.exchange.proofs.Cuts.{laid_part}
 
 pub laid_sent : (v : SendVerdict) (at k : ℕ) (before ys : List ℕ) → at + k ≤ length before → ys ≡ send_out v (take k (drop at before)) → length ys ≡ k → Laid at (tube_in v) before (put_mid at k before ys)
@@ -96,3 +96,14 @@ module _ (bL bP : Bool) (VL VP : SendVerdict) (eb : bL ≡ bP) (ev : VL ≡ VP) 
         laid (bytes_of P.tubes) before (w ∙ ap (λ n. bytes_of P.tubes ++ drop n before) e) e
         ∙ ap (λ t. t ++ drop (length t) before) joins
         ∙ ap (λ n. bytes_of Q.tubes ++ drop n before) (sym (turn_used used len e f))
+
+-- a line for every order
+pub lines_long : (m : Meaning) (s : ParameterSet) (bytes : List ℕ) (W K : ℕ) (p : Sends) (orders : List SendOrder)
+    → length (fold (λ q o. ordered m s bytes W K q o) p orders).lines ≡ length p.lines + length orders
+lines_long m s bytes W K p [] = omega arith
+lines_long m s bytes W K p (o ∷ os) =
+    let b = lies (length bytes) (W - length (bytes_of p.tubes)) K o in
+    let v = verdict_to m p.left s p.next bytes o in
+    let h = after b v p o (label_of bytes o) (contents_of bytes o) in
+    lines_long m s bytes W K (ordered m s bytes W K p o) os
+    ∙ omega (arith, ap length h.lines, length-append p.lines (record { order = o; outcome = cond b (outcome_of v) outcome.Passed } ∷ []))

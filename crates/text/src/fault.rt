@@ -1,4 +1,7 @@
 // Why a text can't be read.
+ghost use Rattle.std.specs.Prelude.{◌≡◌};
+ghost use Rattle.text.specs.Hex.{fault_of};
+
 use hex::FromHexError;
 use std::alloc::AllocError;
 use thiserror::Error;
@@ -18,6 +21,8 @@ pub enum TextFault {
 }
 
 impl From<FromHexError> for TextFault {
+    ghost from_gives = { λ error fault. fault ≡ fault_of error };
+
     fn from(error: FromHexError) -> TextFault {
         match error {
             FromHexError::InvalidHexCharacter { c, index: _ } => TextFault::NoDigit(c),

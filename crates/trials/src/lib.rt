@@ -6,3 +6,5 @@
 mod clocs;
 #[cfg(test)]
 mod piles;
+#[cfg(test)]
+mod texts;
