@@ -26,7 +26,7 @@ impl RoundKey for SpacedKey {
         let wk = &register.values;
         let words = [wk[1], wk[3], wk[4], wk[6], wk[13], wk[14], wk[15], wk[16]];
         SpacedKey {
-            bits: u64::from_be_bytes(words.map(|word| word << 4)),
+            bits: u64::from_be_bytes(words) << 4,
         }
     }
 
